@@ -1,0 +1,10 @@
+pub mod Signs
+pub mod Breaking
+pub mod Sized
+pub mod Growing
+pub mod Spelled
+pub mod Parts
+pub mod RoundTrip
+pub mod Judging
+pub mod Sound
+pub mod ReadBack
