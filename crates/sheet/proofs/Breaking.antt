@@ -15,6 +15,7 @@ use Rattle.sheet.specs.declared.limits.Limits.{Limits}
 use Rattle.sheet.specs.declared.refusal.Refusal.{Refusal}
 use Rattle.sheet.specs.declared.refusal.Refusal.the-variants.{Range, Conflict}
 use Rattle.sheet.specs.Rules.{firstBroken, rowRanges, eachRow, rowConflicts, levelConflicts, edgeConflicts, stepConflicts, conflictRules, rangeRules, levelRanges, degreeRanges, stepRanges, timingRanges}
+use Rattle.sheet.specs.Charging.{noRow}
 use Rattle.sheet.specs.Decoded.{refuse, next, ranges, conflicts}
 
 abbrev pub either : Option ℕ → Option ℕ → Option ℕ
@@ -48,12 +49,9 @@ pub conflicts-in-order : (s : Limits) → conflicts s ≡ next (judged Conflict 
 unfolding conflicts conflictRules
 conflicts-in-order s = simp (refuse-append Conflict)
 
-abbrev pub blank : Row
-blank = record { current = 0; voltage = 0; level = 0 }
-
-pub row-step : (f : ℕ → Row → List Rule) (p : ℕ) (rows : List Row) (i : ℕ) → i < length rows → firstBroken (eachRow f p (drop i rows)) ≡ either (firstBroken (f p (getD rows i blank))) (firstBroken (eachRow f (p + 6) (drop (i + 1) rows)))
+pub row-step : (f : ℕ → Row → List Rule) (p : ℕ) (rows : List Row) (i : ℕ) → i < length rows → firstBroken (eachRow f p (drop i rows)) ≡ either (firstBroken (f p (getD rows i noRow))) (firstBroken (eachRow f (p + 6) (drop (i + 1) rows)))
 unfolding eachRow
-row-step f p rows i h = at-drop-more (λ rs. firstBroken (eachRow f p rs)) rows i blank h ∙ first-append (f p (getD rows i blank)) (eachRow f (p + 6) (drop (i + 1) rows))
+row-step f p rows i h = at-drop-more (λ rs. firstBroken (eachRow f p rs)) rows i noRow h ∙ first-append (f p (getD rows i noRow)) (eachRow f (p + 6) (drop (i + 1) rows))
 
 pub row-end : (f : ℕ → Row → List Rule) (p : ℕ) (rows : List Row) (i : ℕ) → length rows ≤ i → firstBroken (eachRow f p (drop i rows)) ≡ None
 unfolding eachRow

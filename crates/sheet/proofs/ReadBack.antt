@@ -28,16 +28,16 @@ use Rattle.sheet.specs.Rules.{firstBroken, allKept, rangeRules, conflictRules}
 use Rattle.sheet.specs.Accepted.{sound, fits, isByte, allBytes, degreesFit, lengthsFit}
 use Rattle.sheet.specs.Decoded.{decoded, contents, summed, ranges, conflicts, next, refuse, unless, isSummed}
 use Rattle.sheet.specs.Encoded.{bodyOf, imageOf}
-use Rattle.sheet.proofs.Breaking.{blank}
+use Rattle.sheet.specs.Charging.{noRow}
 use Rattle.sheet.proofs.Signs.{kept}
 use Rattle.sheet.proofs.Sized.{sized}
 
 -- n elements from place i on, written out
-abbrev listed : {A : Type 0} → A → ℕ → ℕ → List A → List A
+abbrev pub listed : {A : Type 0} → A → ℕ → ℕ → List A → List A
 listed d zero i xs = []
 listed d (suc n) i xs = getD xs i d ∷ listed d n (i + 1) xs
 
-listed-is : {A : Type 0} (d : A) (n i : ℕ) (xs : List A) → i + n ≡ length xs → drop i xs ≡ listed d n i xs
+pub listed-is : {A : Type 0} (d : A) (n i : ℕ) (xs : List A) → i + n ≡ length xs → drop i xs ≡ listed d n i xs
 listed-is d zero i xs h = drop-all i xs (omega arith)
 listed-is d (suc n) i xs h = drop-more xs i d (omega arith) ∙ ap (λ ys. getD xs i d ∷ ys) (listed-is d n (i + 1) xs (omega arith))
 
@@ -46,12 +46,12 @@ abbrev spelt : Limits → Limits
 spelt l = record {
   levels = l .levels;
   degrees = record { edges = listed (pos 0) 8 0 (l .degrees .edges); hot = l .degrees .hot; die = l .degrees .die; permanent = l .degrees .permanent; hysteresis = l .degrees .hysteresis };
-  rows = listed blank 7 0 (l .rows);
+  rows = listed noRow 7 0 (l .rows);
   steps = record { voltages = listed 0 4 0 (l .steps .voltages); ratios = listed 0 4 0 (l .steps .ratios) };
   timing = l .timing;
 }
 
-pub record Sized (l : Limits) : Type 0 where
+record Sized (l : Limits) : Type 0 where
   edges : length (l .degrees .edges) ≡ 8
   rows : length (l .rows) ≡ 7
   voltages : length (l .steps .voltages) ≡ 4
@@ -60,7 +60,7 @@ pub record Sized (l : Limits) : Type 0 where
 spells : (l : Limits) → Sized l → l ≡ spelt l
 spells l s =
     let e = listed-is (pos 0) 8 0 (l .degrees .edges) (omega (arith, s .edges)) in
-    let r = listed-is blank 7 0 (l .rows) (omega (arith, s .rows)) in
+    let r = listed-is noRow 7 0 (l .rows) (omega (arith, s .rows)) in
     let v = listed-is 0 4 0 (l .steps .voltages) (omega (arith, s .voltages)) in
     let a = listed-is 0 4 0 (l .steps .ratios) (omega (arith, s .ratios)) in
     λ i. record {

@@ -5,4 +5,5 @@ pub mod Decoded
 pub mod Encoded
 pub mod Accepted
 pub mod Laws
+pub mod Charging
 pub mod Verdicts

@@ -1,10 +1,9 @@
 // The fields that must agree with each other.
 ghost use mathlib.Core.Path.{_≡_};
 ghost use Prim.Native.Nat.{_+_, _<_};
-ghost use lib.ListN.{length};
 ghost use Rattle.std.specs.declared.result.Result.the-variants.{Ok};
 ghost use Rattle.sheet.specs.declared.refusal.Refusal.the-variants.{Conflict};
-ghost use Rattle.sheet.specs.Rules.{firstBroken, levelConflicts, edgeConflicts, rowConflicts, eachRow, stepConflicts};
+ghost use Rattle.sheet.specs.Rules.{levelConflicts, edgeConflicts, rowConflicts, stepConflicts};
 ghost use Rattle.sheet.specs.Decoded.{refuse, conflicts};
 use super::limits::Degrees;
 use super::limits::Levels;
@@ -12,6 +11,8 @@ use super::limits::Limits;
 use super::limits::Row;
 use super::limits::Steps;
 use super::refusal::Refusal;
+use super::row::RowRules;
+use super::row::first_broken_row;
 use super::rule::Rule;
 use super::rule::first_broken;
 
@@ -76,18 +77,18 @@ fn row_conflicts(overdrop: u16, place: u8, row: &Row) -> [Rule; 2]
     ]
 }
 
-fn first_row_at_odds(overdrop: u16, rows: &[Row]) -> Option<u8>
-    requires { ⌜ length (now rows) ≡ 7 ⌝ }
-    ensures { λ r. ⌜ r ≡ firstBroken (eachRow (rowConflicts overdrop) 56 (now (rows .entry))) ⌝ }
-{
-    let mut place: u8 = 56;
-    for row in rows {
-        if let Some(at) = first_broken(&row_conflicts(overdrop, place, row)) {
-            return Some(at);
-        }
-        place += 6;
+// A row's numbers agree with each other and with the over-voltage drop.
+#[derive(Drop)]
+struct InAgreement {
+    overdrop: u16,
+}
+
+impl RowRules for InAgreement as InAgreementRules {
+    ghost rules = { λ s. rowConflicts (s .overdrop) };
+
+    fn first_broken_at(&self, place: u8, row: &Row) -> Option<u8> {
+        first_broken(&row_conflicts(self.overdrop, place, row))
     }
-    None
 }
 
 fn step_conflicts(s: &Steps) -> [Rule; 6]
@@ -135,6 +136,11 @@ pub(crate) fn check_agreement(l: &Limits) -> Result<(), Refusal>
 {
     at_odds(first_broken(&level_conflicts(&l.levels)))?;
     at_odds(first_broken(&edge_conflicts(&l.degrees)))?;
-    at_odds(first_row_at_odds(l.levels.overdrop, &l.rows))?;
+    at_odds(first_broken_row(
+        &InAgreement {
+            overdrop: l.levels.overdrop,
+        },
+        &l.rows,
+    ))?;
     at_odds(first_broken(&step_conflicts(&l.steps)))
 }

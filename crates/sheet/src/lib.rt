@@ -6,6 +6,7 @@ mod fields;
 mod limits;
 mod ranges;
 mod refusal;
+mod row;
 mod rule;
 mod sheet;
 mod verdict;

@@ -2,10 +2,9 @@
 ghost use mathlib.Core.Path.{_≡_};
 ghost use Prim.Native.Nat.{_+_, _%_, _<_};
 ghost use lib.Dec.{eqb};
-ghost use lib.ListN.{length};
 ghost use Rattle.std.specs.declared.result.Result.the-variants.{Ok};
 ghost use Rattle.sheet.specs.declared.refusal.Refusal.the-variants.{Range};
-ghost use Rattle.sheet.specs.Rules.{firstBroken, levelRanges, degreeRanges, rowRanges, eachRow, stepRanges, timingRanges};
+ghost use Rattle.sheet.specs.Rules.{levelRanges, degreeRanges, rowRanges, stepRanges, timingRanges};
 ghost use Rattle.sheet.specs.Decoded.{refuse, ranges};
 use super::limits::Degrees;
 use super::limits::Levels;
@@ -14,6 +13,8 @@ use super::limits::Row;
 use super::limits::Steps;
 use super::limits::Timing;
 use super::refusal::Refusal;
+use super::row::RowRules;
+use super::row::first_broken_row;
 use super::rule::Rule;
 use super::rule::first_broken;
 
@@ -108,18 +109,16 @@ fn row_ranges(place: u8, row: &Row) -> [Rule; 3]
     ]
 }
 
-fn first_row_out(rows: &[Row]) -> Option<u8>
-    requires { ⌜ length (now rows) ≡ 7 ⌝ }
-    ensures { λ r. ⌜ r ≡ firstBroken (eachRow rowRanges 56 (now (rows .entry))) ⌝ }
-{
-    let mut place: u8 = 56;
-    for row in rows {
-        if let Some(at) = first_broken(&row_ranges(place, row)) {
-            return Some(at);
-        }
-        place += 6;
+// A row's numbers are in their ranges.
+#[derive(Drop)]
+struct InRange;
+
+impl RowRules for InRange as InRangeRules {
+    ghost rules = { λ _. rowRanges };
+
+    fn first_broken_at(&self, place: u8, row: &Row) -> Option<u8> {
+        first_broken(&row_ranges(place, row))
     }
-    None
 }
 
 fn step_ranges(s: &Steps) -> [Rule; 8]
@@ -184,7 +183,7 @@ pub(crate) fn check_ranges(l: &Limits) -> Result<(), Refusal>
 {
     in_range(first_broken(&level_ranges(&l.levels)))?;
     in_range(first_broken(&degree_ranges(&l.degrees)))?;
-    in_range(first_row_out(&l.rows))?;
+    in_range(first_broken_row(&InRange, &l.rows))?;
     in_range(first_broken(&step_ranges(&l.steps)))?;
     in_range(first_broken(&timing_ranges(&l.timing)))
 }

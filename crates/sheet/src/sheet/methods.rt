@@ -1,7 +1,9 @@
 // Image to sheet, sheet to image, and the delays of a sheet.
 ghost use mathlib.Core.Path.{_≡_};
+ghost use Prim.Native.Nat.{_*_, _/_, _<_, _≤_};
 ghost use Rattle.std.specs.declared.result.Result.the-variants.{Ok};
 ghost use Rattle.delays.specs.Delays.{delayOf};
+ghost use Rattle.sheet.specs.Charging.{preQualVolt, prechgCurr, prechargeBelow, prechargeMost};
 ghost use Rattle.sheet.specs.Decoded.{decoded};
 ghost use Rattle.sheet.specs.Encoded.{imageOf};
 ghost use Rattle.sheet.specs.Laws.{Judged, Writes-back, One-image};
@@ -38,4 +40,46 @@ impl Sheet {
     {
         delays::delay(self.limits.timing.delaycfg, timer)
     }
+
+    // Below this voltage, in mV, the cell is precharged.
+    pub fn precharge_below(&self) -> u32
+        ensures { λ r. ⌜ r ≡ prechargeBelow (now (self .entry) .limits) ⌝ }
+    {
+        let levels = &self.limits.levels;
+        u32::from(levels.trip) + 50 * u32::from(pre_qual_volt(levels.chargecfg))
+    }
+
+    // The most that precharging allows, in mA: a share of the Room row's current.
+    pub fn precharge_most(&self) -> u16
+        ensures { λ r. ⌜ r ≡ prechargeMost (now (self .entry) .limits) ⌝ }
+    {
+        let shares = 1 + prechg_curr(self.limits.levels.chargecfg);
+        share(self.limits.rows[ROOM].current, shares)
+    }
+}
+
+const ROOM: usize = 3;
+
+// D12-D9 of the charge word.
+fn pre_qual_volt(word: u16) -> u16
+    ensures value { λ r. ⌜ r ≡ preQualVolt word ⌝ }
+    ensures bound { λ r. ⌜ r < 16 ⌝ }
+{
+    word >> 9 & 15
+}
+
+// D5-D0 of the charge word.
+fn prechg_curr(word: u16) -> u16
+    ensures value { λ r. ⌜ r ≡ prechgCurr word ⌝ }
+    ensures bound { λ r. ⌜ r < 64 ⌝ }
+{
+    word & 63
+}
+
+// So many 256ths of a current, rounded down.
+fn share(current: u16, shares: u16) -> u16
+    requires { ⌜ shares ≤ 64 ⌝ }
+    ensures { λ r. ⌜ r ≡ current * shares / 256 ⌝ }
+{
+    (u32::from(current) * u32::from(shares) / 256) as u16
 }

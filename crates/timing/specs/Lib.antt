@@ -1,0 +1,4 @@
+pub mod Timing
+pub mod Stands
+pub mod Order
+pub mod Mask
