@@ -35,3 +35,11 @@ delayOf t w = getD (table t) (settingOf t w) 0
 -- no word that sets the timer at least as high has a delay shorter than d, the delay under v
 abbrev pub No-shorter : Timer → ℕ → ℕ → Type 0
 No-shorter t v d = (w : ℕ) → settingOf t v ≤ settingOf t w → d ≤ delayOf t w
+
+-- every field of w is at least that of v
+abbrev pub Settings-no-lower : ℕ → ℕ → Type 0
+Settings-no-lower v w = (t : Timer) → settingOf t v ≤ settingOf t w
+
+-- no delay under w is shorter than under v
+abbrev pub Delays-no-shorter : ℕ → ℕ → Type 0
+Delays-no-shorter v w = (t : Timer) → delayOf t v ≤ delayOf t w

@@ -1,8 +1,11 @@
 // The delay word nDelayCfg: the setting of each timer in it, and the delay in milliseconds that the setting stands for.
 ghost use mathlib.Core.Path.{_≡_};
 ghost use Prim.Native.Nat.{_%_, _<_};
+ghost use mathlib.Core.Bool.{true};
+ghost use lib.Dec.{leb};
 ghost use lib.ListN.{length, getD};
-ghost use Rattle.delays.specs.Delays.{settingOf, table, delayOf, No-shorter};
+ghost use Rattle.std.specs.Orderings.{Decides};
+ghost use Rattle.delays.specs.Delays.{settingOf, table, delayOf, No-shorter, Settings-no-lower, Delays-no-shorter};
 
 // What a delay is for. Undervoltage and Shutdown go by one setting, and so do Temperature and Transition.
 #[derive(Clone, Copy)]
@@ -92,6 +95,31 @@ pub fn delay(word: u16, timer: Timer) -> u32
     ensures rises { λ r. ⌜ No-shorter timer word r ⌝ }
 {
     entry(timer, setting(word, timer))
+}
+
+fn no_lower(a: u16, b: u16, timer: Timer) -> bool
+    ensures { λ r. ⌜ r ≡ leb (settingOf timer a) (settingOf timer b) ⌝ }
+{
+    setting(a, timer) <= setting(b, timer)
+}
+
+fn all_no_lower(a: u16, b: u16) -> bool
+    ensures decides { λ r. ⌜ Decides r (Settings-no-lower a b) ⌝ }
+    ensures delays { λ r. ⌜ (r ≡ true → Delays-no-shorter a b) ⌝ }
+{
+    let faults = no_lower(a, b, Timer::Undervoltage)
+        & (no_lower(a, b, Timer::Temperature) & no_lower(a, b, Timer::Permanent));
+    let charging = no_lower(a, b, Timer::Overvoltage)
+        & (no_lower(a, b, Timer::Full) & no_lower(a, b, Timer::Watchdog));
+    no_lower(a, b, Timer::Overcurrent) & (faults & charging)
+}
+
+// Whether the word b is no lower than a in every field; then none of its delays is shorter.
+pub fn sets_no_lower(a: u16, b: u16) -> bool
+    ensures decides { λ r. ⌜ Decides r (Settings-no-lower a b) ⌝ }
+    ensures delays { λ r. ⌜ (r ≡ true → Delays-no-shorter a b) ⌝ }
+{
+    all_no_lower(a, b)
 }
 
 #[cfg(test)]

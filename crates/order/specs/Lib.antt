@@ -1,1 +1,3 @@
 pub mod Generous
+pub mod Tests
+pub mod Laws

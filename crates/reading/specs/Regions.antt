@@ -31,12 +31,19 @@ isEnd reached = eqb reached 0 || eqb reached 8
 abbrev pub levelAt : List Row → ℕ → ℕ
 levelAt rows reached = getD rows (rowAt reached) noRow .level
 
+-- what the charger may give in a region: nothing at the ends
+abbrev pub currentAt : List Row → ℕ → ℕ
+currentAt rows reached = cond (isEnd reached) 0 (getD rows (rowAt reached) noRow .current)
+
+abbrev pub voltageAt : List Row → ℕ → ℕ
+voltageAt rows reached = cond (isEnd reached) 0 (getD rows (rowAt reached) noRow .voltage)
+
 -- what a sheet has at a temperature: the over-voltage level, and the current and voltage that the charger may give
 abbrev pub levelOf : Limits → ℤ → ℕ
 levelOf l t = levelAt (l .rows) (reachedBy (l .degrees .edges) t)
 
 abbrev pub zoneCurrent : Limits → ℤ → ℕ
-zoneCurrent l t = cond (isEnd (reachedBy (l .degrees .edges) t)) 0 (getD (l .rows) (rowAt (reachedBy (l .degrees .edges) t)) noRow .current)
+zoneCurrent l t = currentAt (l .rows) (reachedBy (l .degrees .edges) t)
 
 abbrev pub zoneVoltage : Limits → ℤ → ℕ
-zoneVoltage l t = cond (isEnd (reachedBy (l .degrees .edges) t)) 0 (getD (l .rows) (rowAt (reachedBy (l .degrees .edges) t)) noRow .voltage)
+zoneVoltage l t = voltageAt (l .rows) (reachedBy (l .degrees .edges) t)

@@ -4,7 +4,7 @@ ghost use Prim.Native.Nat.{_+_, _≤_, _<_};
 ghost use mathlib.Core.Bool.{cond};
 ghost use lib.IntN.{pos, _*ℤ_};
 ghost use lib.Signed.{leZ};
-ghost use Rattle.reading.specs.Regions.{reachedBy, numberOf, rowAt, isEnd, levelAt};
+ghost use Rattle.reading.specs.Regions.{reachedBy, numberOf, rowAt, isEnd, levelAt, currentAt, voltageAt};
 use sheet::Degrees;
 use sheet::Sheet;
 
@@ -77,5 +77,27 @@ impl Region {
         ensures { λ r. ⌜ r ≡ levelAt (now (sheet .entry) .limits .rows) (now (self .entry) .reached) ⌝ }
     {
         sheet.limits.rows[self.row()].level
+    }
+
+    // The current that the charger may give in the region, in mA.
+    pub fn current(&self, sheet: &Sheet) -> u16
+        ensures { λ r. ⌜ r ≡ currentAt (now (sheet .entry) .limits .rows) (now (self .entry) .reached) ⌝ }
+    {
+        if self.is_end() {
+            0
+        } else {
+            sheet.limits.rows[self.row()].current
+        }
+    }
+
+    // The voltage that the charger may give in the region, in mV.
+    pub fn voltage(&self, sheet: &Sheet) -> u16
+        ensures { λ r. ⌜ r ≡ voltageAt (now (sheet .entry) .limits .rows) (now (self .entry) .reached) ⌝ }
+    {
+        if self.is_end() {
+            0
+        } else {
+            sheet.limits.rows[self.row()].voltage
+        }
     }
 }

@@ -1,9 +1,9 @@
 // Image to sheet, sheet to image, and the delays of a sheet.
 ghost use mathlib.Core.Path.{_≡_};
-ghost use Prim.Native.Nat.{_*_, _/_, _<_, _≤_};
+ghost use Prim.Native.Nat.{_*_, _/_, _%_, _<_, _≤_};
 ghost use Rattle.std.specs.declared.result.Result.the-variants.{Ok};
 ghost use Rattle.delays.specs.Delays.{delayOf};
-ghost use Rattle.sheet.specs.Charging.{preQualVolt, prechgCurr, prechargeBelow, prechargeMost};
+ghost use Rattle.sheet.specs.Charging.{preQualVolt, prechargeBelow, prechargeMost};
 ghost use Rattle.sheet.specs.Decoded.{decoded};
 ghost use Rattle.sheet.specs.Encoded.{imageOf};
 ghost use Rattle.sheet.specs.Laws.{Judged, Writes-back, One-image};
@@ -45,32 +45,39 @@ impl Sheet {
     pub fn precharge_below(&self) -> u32
         ensures { λ r. ⌜ r ≡ prechargeBelow (now (self .entry) .limits) ⌝ }
     {
-        let levels = &self.limits.levels;
-        u32::from(levels.trip) + 50 * u32::from(pre_qual_volt(levels.chargecfg))
+        u32::from(self.limits.levels.trip) + 50 * u32::from(self.pre_qual_volt())
+    }
+
+    // PreQualVolt, in steps of 50 mV above the under-voltage trip.
+    pub fn pre_qual_volt(&self) -> u16
+        ensures value { λ r. ⌜ r ≡ preQualVolt (now (self .entry) .limits .levels .chargecfg) ⌝ }
+        ensures bound { λ r. ⌜ r < 16 ⌝ }
+    {
+        four_bits(self.limits.levels.chargecfg >> 9)
     }
 
     // The most that precharging allows, in mA: a share of the Room row's current.
     pub fn precharge_most(&self) -> u16
         ensures { λ r. ⌜ r ≡ prechargeMost (now (self .entry) .limits) ⌝ }
     {
-        let shares = 1 + prechg_curr(self.limits.levels.chargecfg);
+        let shares = 1 + six_bits(self.limits.levels.chargecfg);
         share(self.limits.rows[ROOM].current, shares)
     }
 }
 
 const ROOM: usize = 3;
 
-// D12-D9 of the charge word.
-fn pre_qual_volt(word: u16) -> u16
-    ensures value { λ r. ⌜ r ≡ preQualVolt word ⌝ }
+// The lowest four bits.
+fn four_bits(word: u16) -> u16
+    ensures value { λ r. ⌜ r ≡ word % 16 ⌝ }
     ensures bound { λ r. ⌜ r < 16 ⌝ }
 {
-    word >> 9 & 15
+    word & 15
 }
 
-// D5-D0 of the charge word.
-fn prechg_curr(word: u16) -> u16
-    ensures value { λ r. ⌜ r ≡ prechgCurr word ⌝ }
+// The lowest six bits.
+fn six_bits(word: u16) -> u16
+    ensures value { λ r. ⌜ r ≡ word % 64 ⌝ }
     ensures bound { λ r. ⌜ r < 64 ⌝ }
 {
     word & 63

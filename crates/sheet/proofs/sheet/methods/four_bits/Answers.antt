@@ -1,0 +1,6 @@
+use native.Mathlib.Omega.{arith}
+use Rattle.std.proofs.shelf.Bits.{and-mask}
+use Rattle.sheet.proofs.sheet.methods.four_bits.Needs as need
+
+pub returns : need.returns
+returns c = let e = and-mask (c .args .word) 4 in record { value = e; bound = omega (arith, e) }
