@@ -79,3 +79,15 @@ by-fields v w o f c Overcurrent = o
 by-fields v w o f c Overvoltage = c .0
 by-fields v w o f c Full = c .1 .0
 by-fields v w o f c Watchdog = c .1 .1
+
+-- no delay is longer than the longest full delay
+pub delay-bound : (t : Timer) (w : ℕ) → delayOf t w ≤ 5760000
+delay-bound Undervoltage w = omega (arith, rising (table Undervoltage) tt (settingOf Undervoltage w) 3 (omega arith) (omega arith))
+delay-bound Shutdown w = omega (arith, rising (table Shutdown) tt (settingOf Shutdown w) 3 (omega arith) (omega arith))
+delay-bound Temperature w = omega (arith, rising (table Temperature) tt (settingOf Temperature w) 3 (omega arith) (omega arith))
+delay-bound Transition w = omega (arith, rising (table Transition) tt (settingOf Transition w) 3 (omega arith) (omega arith))
+delay-bound Permanent w = omega (arith, rising (table Permanent) tt (settingOf Permanent w) 3 (omega arith) (omega arith))
+delay-bound Overcurrent w = omega (arith, rising (table Overcurrent) tt (settingOf Overcurrent w) 7 (omega arith) (omega arith))
+delay-bound Overvoltage w = omega (arith, rising (table Overvoltage) tt (settingOf Overvoltage w) 3 (omega arith) (omega arith))
+delay-bound Full w = omega (arith, rising (table Full) tt (settingOf Full w) 7 (omega arith) (omega arith))
+delay-bound Watchdog w = omega (arith, rising (table Watchdog) tt (settingOf Watchdog w) 3 (omega arith) (omega arith))

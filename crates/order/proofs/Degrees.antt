@@ -11,7 +11,7 @@ use Rattle.std.proofs.shelf.Ways.{tells}
 use Rattle.sheet.specs.declared.limits.Limits.{Limits}
 use Rattle.reading.specs.Regions.{reachedBy, levelOf, zoneCurrent, zoneVoltage, levelAt, currentAt, voltageAt}
 use Rattle.order.specs.Generous.{No-lower-at, Generous}
-use Rattle.order.specs.Laws.{Temperature}
+use Rattle.reading.specs.Ranges.{Signed16}
 
 -- the whole degree at or below a temperature
 whole : ℤ → ℤ
@@ -45,9 +45,9 @@ unfolding whole
 whole-high (pos n) h = grind (arith, ints)
 whole-high (negsuc n) h = grind (arith, ints)
 
-pub everywhere : (b a : Limits) → Generous b a → (t : ℤ) → Temperature t → No-lower-at b a t
+pub everywhere : (b a : Limits) → Generous b a → (t : ℤ) → Signed16 t → No-lower-at b a t
 everywhere b a g t h =
-    let z = g .zones (whole t) (whole-low t (h .coldest)) (whole-high t (h .hottest)) in
+    let z = g .zones (whole t) (whole-low t (h .low)) (whole-high t (h .high)) in
     let p = same-reached (b .degrees .edges) t in
     let q = same-reached (a .degrees .edges) t in
     record {

@@ -8,3 +8,4 @@ pub mod RoundTrip
 pub mod Judging
 pub mod Sound
 pub mod ReadBack
+pub mod Facts

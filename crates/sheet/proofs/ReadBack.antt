@@ -51,11 +51,11 @@ spelt l = record {
   timing = l .timing;
 }
 
-record Sized (l : Limits) : Type 0 where
-  edges : length (l .degrees .edges) ≡ 8
-  rows : length (l .rows) ≡ 7
-  voltages : length (l .steps .voltages) ≡ 4
-  ratios : length (l .steps .ratios) ≡ 4
+pub record Sized (l : Limits) : Type 0 where
+  pub edges : length (l .degrees .edges) ≡ 8
+  pub rows : length (l .rows) ≡ 7
+  pub voltages : length (l .steps .voltages) ≡ 4
+  pub ratios : length (l .steps .ratios) ≡ 4
 
 spells : (l : Limits) → Sized l → l ≡ spelt l
 spells l s =

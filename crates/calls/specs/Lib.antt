@@ -1,0 +1,5 @@
+pub mod Rejections
+pub mod Fields
+pub mod Kinds
+pub mod Parsed
+pub mod Laws
