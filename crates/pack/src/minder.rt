@@ -1,5 +1,6 @@
 // The pack that answers calls.
 ghost use mathlib.Core.Path.{_≡_};
+ghost use Prim.Native.Nat.{_≤_};
 ghost use Rattle.pack.specs.Exact.{Exact-after};
 ghost use Rattle.pack.specs.Steps.{fresh, shown, outcome, after, refusalIn, answered};
 use super::state::State;
@@ -12,6 +13,8 @@ pub struct Pack<P: Prescriber> {
     sheet: Sheet,
     prescriber: P,
     state: State,
+    // the host limit is one that a record can bring
+    ghost limited: { state .limit ≤ 20000 },
 }
 
 impl State {

@@ -1,6 +1,6 @@
 -- A tighter pack never does more: from what both answers say of the same accepted calls.
 use mathlib.Core.Path.{_≡_, refl, ap, sym, subst, _∙_}
-use mathlib.Core.Bool.{Bool, true, false, cond, _&&_}
+use mathlib.Core.Bool.{Bool, true, false, cond}
 use mathlib.Core.List.{List, [], _∷_, map}
 use mathlib.Core.Logic.{_⊎_, inl, inr}
 use Prim.Native.Nat.{ℕ, _+_, _≤_, _<_, max, min}
@@ -13,7 +13,7 @@ use Rattle.std.specs.declared.option.Option.{Option}
 use Rattle.std.specs.declared.option.Option.the-variants.{Some, None}
 use Rattle.std.specs.declared.result.Result.{Result}
 use Rattle.std.specs.declared.result.Result.the-variants.{Ok, Err}
-use Rattle.std.proofs.shelf.Tests.{false≢true, cases-lt, lt-ltb, ltb-true, cond-both}
+use Rattle.std.proofs.shelf.Tests.{false≢true, cases-lt, lt-ltb, ltb-true}
 use Rattle.std.proofs.shelf.Ways.{decides-eqb}
 use Rattle.delays.specs.declared.Timer.the-variants.{Transition}
 use Rattle.delays.proofs.Rising.{no-shorter}
@@ -37,39 +37,25 @@ use Rattle.faults.proofs.Order.{tighter, fault-no-longer}
 use Rattle.prescribers.specs.Order.{Under}
 use Rattle.calls.specs.declared.call.Call.{Call}
 use Rattle.calls.specs.declared.call.Call.the-variants.{Read, Word, Limit, Switch, Clear}
-use Rattle.calls.specs.declared.call.Offs.{Offs}
 use Rattle.calls.specs.declared.rejection.Rejection.{Rejection}
-use Rattle.calls.specs.declared.rejection.Rejection.the-variants.{Live}
-use Rattle.calls.specs.Parsed.{parsed}
 use Rattle.calls.specs.Laws.{Ranged, Ranged-result}
-use Rattle.calls.proofs.Ranges.{ranged}
 use Rattle.answers.specs.declared.answer.Answer.{Answer}
 use Rattle.pack.specs.declared.state.State.{State}
-use Rattle.pack.specs.Steps.{Meaning, transition, permitted, permittedIn, answered}
+use Rattle.pack.specs.Steps.{Meaning, transition, answered}
 use Rattle.pack.specs.History.{heldOffs, hostLimit, wordSince, readings, noted, callsOf, greatest, levelIn, preparedAfter, lastOf, sinceClear, seenBy}
 use Rattle.pack.specs.Exact.{bitAt, Standing, Switched, After-reading, Shows, Exact, left}
 use Rattle.pack.proofs.Answering.{exact-in}
+use Rattle.pack.proofs.Permitting.{accepted-ranged}
 use Rattle.tighter.specs.Order.{Never-more, answerAfter, Tighter-never-more, Tighter-call}
 
 -- every accepted call is in range
-allowed : (o : Offs) (c : Call) → Ranged c → Ranged-result (permitted o c)
-allowed o (Read r) h = h
-allowed o Word h = tt
-allowed o (Limit n) h = h
-allowed o (Switch p) h = tt
-allowed o Clear h = cond-both (o .charge && o .discharge) (Ok Clear) (Err Live) Ranged-result (λ e. tt) (λ e. tt)
-
-allowed-in : (o : Offs) (r : Result Call Rejection) → Ranged-result r → Ranged-result (permittedIn o r)
-allowed-in o (Ok c) h = allowed o c h
-allowed-in o (Err e) h = tt
-
 noted-ranged : (cs : List Call) (r : Result Call Rejection) → Ranged-result r → All Ranged cs → All Ranged (noted cs r)
 noted-ranged cs (Ok c) h k = (h, k)
 noted-ranged cs (Err e) h k = k
 
 calls-ranged : (records : List (List ℕ)) → All Ranged (callsOf records)
 calls-ranged [] = tt
-calls-ranged (bytes ∷ earlier) = noted-ranged (callsOf earlier) _ (allowed-in (heldOffs (callsOf earlier)) (parsed bytes) (ranged bytes)) (calls-ranged earlier)
+calls-ranged (bytes ∷ earlier) = noted-ranged (callsOf earlier) _ (accepted-ranged (heldOffs (callsOf earlier)) bytes) (calls-ranged earlier)
 
 readings-ranged : (cs : List Call) → All Ranged cs → All InReadingRange (readings cs)
 readings-ranged [] h = tt

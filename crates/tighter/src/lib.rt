@@ -1,10 +1,16 @@
 // A tighter sheet never does more: a tight and a loose pack, both new, fed the same records.
 ghost use mathlib.Core.Path.{_≡_};
 ghost use Rattle.pack.specs.Steps.{fresh, after, answered};
-ghost use Rattle.tighter.specs.Order.{newestFirst, lastAnswers, Tighter-never-more, Tighter-call};
+ghost use Rattle.order.specs.Generous.{Generous};
+ghost use Rattle.prescribers.specs.Usual.{usualGives};
+ghost use Rattle.tighter.specs.Order.{newestFirst, lastAnswers, Tighter-run, Tighter-never-more, Tighter-call};
 use answers::Answer;
 use pack::Pack;
+use prescribers::PrechargePrescriber;
 use prescribers::Prescriber;
+use prescribers::StepPrescriber;
+use prescribers::ZonePrescriber;
+use prescribers::usual;
 use sheet::Sheet;
 
 // One record to both packs.
@@ -79,4 +85,14 @@ pub fn run_both<P: Prescriber + Drop, Q: Prescriber + Drop>(
     let mut cautious = Pack::new(tight.0, tight.1);
     let mut generous = Pack::new(loose.0, loose.1);
     feed_both(&mut cautious, &mut generous, records)
+}
+
+// The same with the usual stack of each sheet: these are in order whenever the sheets are.
+pub fn run_usual(tight: Sheet, loose: Sheet, records: &[&[u8]]) -> Option<(Answer, Answer)>
+    ensures last { λ r. ⌜ r ≡ lastAnswers (tight .limits) (usualGives (tight .limits)) (loose .limits) (usualGives (loose .limits)) (newestFirst (now (records .entry))) ⌝ }
+    ensures ordered { λ _. ⌜ (Generous (loose .limits) (tight .limits) → Tighter-run (tight .limits) (usualGives (tight .limits)) (loose .limits) (usualGives (loose .limits)) (newestFirst (now (records .entry)))) ⌝ }
+{
+    let cautious = usual(&tight);
+    let generous = usual(&loose);
+    run_both((tight, cautious), (loose, generous), records)
 }

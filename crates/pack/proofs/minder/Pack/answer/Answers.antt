@@ -1,7 +1,9 @@
-use mathlib.Core.Path.{_≡_, refl, _∙_}
+use mathlib.Core.Path.{_≡_, refl, sym, subst, _∙_}
+use Prim.Native.Nat.{_≤_}
 use Rattle.sheet.proofs.Facts.{lengths}
 use Rattle.pack.specs.Steps.{Meaning, shown, answered}
 use Rattle.pack.proofs.Answering.{exact-after}
+use Rattle.pack.proofs.Permitting.{limit-after}
 use Rattle.pack.proofs.minder.Pack.answer.Needs as need
 
 pub returns : need.returns
@@ -18,3 +20,9 @@ returns g c =
       prescriber = refl;
       state = c .heed-refusal .ensures .state;
     }
+
+pub ghost-self : need.ghost-self
+ghost-self g c =
+    let s = c .args .self .now .sheet in
+    let x = c .args .self .now .state in
+    (subst (λ y. y .limit ≤ 20000) (sym (c .heed-refusal .ensures .state)) (limit-after (s .limits) x (c .args .self .now .limited) (c .args .bytes .now)), tt)
