@@ -1,8 +1,7 @@
 -- A parsed call is in range.
-use mathlib.Core.Path.{_≡_, subst}
 use mathlib.Core.Bool.{cond}
 use mathlib.Core.List.{List}
-use Prim.Native.Nat.{ℕ, _-_, _^_, _≤_}
+use Prim.Native.Nat.{ℕ, _-_, _^_}
 use native.Mathlib.Omega.{arith}
 use lib.Dec.{eqb}
 use lib.ListN.{length, getD}
@@ -12,8 +11,6 @@ use Rattle.std.specs.declared.result.Result.the-variants.{Ok, Err}
 use Rattle.std.proofs.shelf.Signed.{ints}
 use Rattle.std.proofs.shelf.Tests.{cond-both}
 use Rattle.sheet.specs.Fields.{word}
-use Rattle.reading.specs.declared.reading.Reading.{Reading}
-use Rattle.calls.specs.declared.call.Call.the-variants.{Read, Limit}
 use Rattle.calls.specs.declared.rejection.Rejection.the-variants.{Letter, Spare, Range, Length}
 use Rattle.calls.specs.Fields.{spareSet}
 use Rattle.calls.specs.Kinds.{Kind, R, W, L, S, C, flagsOf, spareFrom, rangeOf, callOf, parsedAs}

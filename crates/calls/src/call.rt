@@ -1,4 +1,4 @@
-// The calls that a pack heeds.
+// The calls that a pack takes.
 use reading::Reading;
 
 // The switches that the host holds off.
@@ -18,6 +18,6 @@ pub enum Call {
     Limit(u16),
     // the switches that the host holds off
     Switch(Offs),
-    // a service clear, which the pack heeds only while both switches are held off
+    // a service clear, which the pack takes only while both switches are held off
     Clear,
 }

@@ -1,4 +1,4 @@
-// Why a record is not heeded.
+// Why a record is refused.
 ghost use mathlib.Core.Path.{_≡_};
 ghost use Rattle.calls.specs.Rejections.{numberOf};
 

@@ -1,7 +1,6 @@
 -- The sample sheet and the same one with a shorter watchdog.
 use mathlib.Core.Path.{refl}
 use Rattle.std.proofs.shelf.Tests.{leb-true, le-leb, false≢true}
-use Rattle.delays.specs.declared.Timer.{Timer}
 use Rattle.delays.specs.declared.Timer.the-variants.{Undervoltage, Shutdown, Temperature, Transition, Permanent, Overcurrent, Overvoltage, Full, Watchdog}
 use Rattle.delays.specs.Delays.{Settings-no-lower}
 use Rattle.order.specs.Generous.{Generous}

@@ -1,6 +1,6 @@
 -- Records of readings, and what a new pack under the sample sheet answers to them.
 use mathlib.Core.Bool.{Bool, true, cond}
-use mathlib.Core.List.{List, [], _∷_, _++_}
+use mathlib.Core.List.{List, _∷_, _++_}
 use Prim.Native.Nat.{ℕ}
 use Rattle.sheet.specs.Encoded.{pair}
 use Rattle.prescribers.specs.Usual.{usualGives}

@@ -1,11 +1,11 @@
 -- What a fault's rule sees under a sheet is no looser than under a sheet at least as generous. Assumes nothing.
-use Prim.Native.Nat.{ℕ, _+_, _*_, _/_, _%_, _^_, _≤_, _<_}
+use Prim.Native.Nat.{ℕ, _+_, _≤_, _<_}
 use mathlib.Core.Path.{_≡_, sym, ap}
 use mathlib.Core.Bool.{not, _&&_}
 use mathlib.Core.List.{List, [], _∷_, map}
 use native.Mathlib.Omega.{arith}
 use lib.Dec.{leb, ltb}
-use lib.IntN.{ℤ, pos, negℤ, _+ℤ_, _-ℤ_, _*ℤ_}
+use lib.IntN.{ℤ, pos, negℤ, _+ℤ_, _-ℤ_}
 use lib.Signed.{_≤ℤ_, leZ, ltZ}
 use Rattle.std.specs.shelf.Lists.{Each}
 use Rattle.std.proofs.shelf.Signed.{ints}
@@ -13,8 +13,7 @@ use Rattle.std.proofs.shelf.Tests.{eqb-true, eq-eqb}
 use Rattle.delays.proofs.Rising.{no-shorter}
 use Rattle.sheet.specs.declared.limits.Limits.{Limits}
 use Rattle.reading.specs.declared.prepared.Prepared.{Prepared}
-use Rattle.order.specs.Generous.{Generous, firstEdge, lastEdge}
-use Rattle.timing.specs.declared.Observation.{Observation}
+use Rattle.order.specs.Generous.{Generous}
 use Rattle.timing.specs.Order.{Tighter}
 use Rattle.faults.specs.declared.fault.Fault.{Fault}
 use Rattle.faults.specs.declared.fault.Fault.the-variants.{Undervoltage, Shutdown, Overvoltage, OvercurrentCharge, OvercurrentDischarge, TooColdCharge, TooHotCharge, TooHotDischarge, DieHot, Full, Watchdog, PermanentHot, PermanentOvervoltage}

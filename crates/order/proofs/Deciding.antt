@@ -1,9 +1,8 @@
 -- The tests decide whether a sheet is at least as generous as another.
-use mathlib.Core.Path.{_≡_, refl, ap, sym, subst, _∙_}
+use mathlib.Core.Path.{_≡_, refl, subst}
 use mathlib.Core.Bool.{Bool, true, false, not, _&&_, _||_}
 use mathlib.Core.Logic.{_⊎_, inl, inr}
 use Prim.Native.Nat.{ℕ, _+_, _-_, _/_, _%_, _^_, _≤_, _<_}
-use native.Mathlib.Nat.{le-refl, le-trans}
 use native.Mathlib.Omega.{arith}
 use lib.Dec.{T, leb, eqb}
 use lib.IntN.{ℤ, pos, negsuc, _-ℤ_, _*ℤ_}
@@ -12,14 +11,10 @@ use lib.Signed.{_≤ℤ_, leZ}
 use Rattle.std.specs.Orderings.{Decides}
 use Rattle.std.proofs.shelf.Signed.{ints}
 use Rattle.std.proofs.shelf.Tests.{leb-true, le-leb, false≢true}
-use Rattle.std.proofs.shelf.Ways.{tells, decides-eqb, decides-and, decides-like, decides-not, decides-or}
-use Rattle.delays.specs.Delays.{settingOf, Settings-no-lower}
-use Rattle.sheet.specs.declared.limits.Levels.{Levels}
-use Rattle.sheet.specs.declared.limits.Steps.{Steps}
+use Rattle.std.proofs.shelf.Ways.{decides-eqb, decides-and, decides-like, decides-not, decides-or}
+use Rattle.delays.specs.Delays.{Settings-no-lower}
 use Rattle.sheet.specs.declared.limits.Limits.{Limits}
-use Rattle.sheet.specs.Charging.{preQualVolt, prechargeMost}
-use Rattle.reading.specs.Regions.{levelOf, zoneCurrent, zoneVoltage}
-use Rattle.order.specs.Generous.{firstEdge, lastEdge, Enabled, No-lower-at, Generous}
+use Rattle.order.specs.Generous.{Enabled, No-lower-at, Generous}
 use Rattle.order.specs.Tests.{levelsNoHigher, levelsNoLower, degreesTest, prechargeTest, stepTest, stepsTest, enabledTest, enabledTests, degree, zoneTest, zonesTest}
 use Rattle.order.proofs.Below.{decides-below}
 

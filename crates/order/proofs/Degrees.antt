@@ -1,15 +1,15 @@
 -- Nothing changes between two whole degrees, so what holds at each of them holds at every temperature.
-use mathlib.Core.Path.{_≡_, refl, ap, sym, subst, _∙_}
-use mathlib.Core.Bool.{Bool, true, false, cond}
+use mathlib.Core.Path.{_≡_, refl, sym, _∙_}
+use mathlib.Core.Bool.{cond}
 use mathlib.Core.List.{List, [], _∷_}
-use Prim.Native.Nat.{ℕ, _+_, _*_, _/_, _≤_, _<_}
+use Prim.Native.Nat.{_+_, _*_, _/_, _≤_}
 use native.Mathlib.Omega.{arith}
-use lib.IntN.{ℤ, pos, negsuc, _*ℤ_, _-ℤ_}
+use lib.IntN.{ℤ, pos, negsuc, _*ℤ_}
 use lib.Signed.{_≤ℤ_, leZ}
 use Rattle.std.proofs.shelf.Signed.{ints}
 use Rattle.std.proofs.shelf.Ways.{tells}
 use Rattle.sheet.specs.declared.limits.Limits.{Limits}
-use Rattle.reading.specs.Regions.{reachedBy, levelOf, zoneCurrent, zoneVoltage, levelAt, currentAt, voltageAt}
+use Rattle.reading.specs.Regions.{reachedBy}
 use Rattle.order.specs.Generous.{No-lower-at, Generous}
 use Rattle.reading.specs.Ranges.{Signed16}
 

@@ -1,13 +1,12 @@
 -- At least as generous is reflexive and transitive.
-use Prim.Native.Nat.{ℕ, _≤_}
+use Prim.Native.Nat.{_≤_}
 use native.Mathlib.Nat.{le-refl, le-trans}
 use native.Mathlib.Omega.{arith}
-use lib.IntN.{ℤ, pos, negsuc}
+use lib.IntN.{ℤ}
 use lib.Signed.{_≤ℤ_}
 use Rattle.std.proofs.shelf.Signed.{ints}
-use Rattle.delays.specs.Delays.{settingOf}
 use Rattle.sheet.specs.declared.limits.Limits.{Limits}
-use Rattle.order.specs.Generous.{Generous, No-lower-at}
+use Rattle.order.specs.Generous.{Generous}
 
 same : (z : ℤ) → z ≤ℤ z
 same z = omega (arith, ints)

@@ -2,7 +2,7 @@
 use mathlib.Core.Path.{_≡_, refl, ap, sym, subst, _∙_}
 use mathlib.Core.Bool.{Bool, true, false, not, cond, _&&_}
 use mathlib.Core.List.{List, [], _∷_, map}
-use Prim.Native.Nat.{ℕ, _+_, _/_, _%_, _^_, _≤_, _<_, min}
+use Prim.Native.Nat.{ℕ, _≤_, min}
 use native.Mathlib.Omega.{arith}
 use lib.Dec.{eqb}
 use lib.ListN.{length, getD}
@@ -10,33 +10,31 @@ use Rattle.std.specs.Orderings.{Decides}
 use Rattle.std.specs.declared.option.Option.{Option}
 use Rattle.std.specs.declared.option.Option.the-variants.{Some, None}
 use Rattle.std.proofs.shelf.Lists.{getD-map, getD-past, length-map}
-use Rattle.std.proofs.shelf.Tests.{and-parts, and-from, not-true, not-from-false, false≢true, cases-bool}
+use Rattle.std.proofs.shelf.Tests.{and-parts, and-from, not-true, not-from-false, false≢true}
 use Rattle.std.proofs.shelf.Ways.{decides-at}
 use Rattle.delays.proofs.Rising.{delay-bound}
 use Rattle.sheet.specs.declared.limits.Limits.{Limits}
 use Rattle.reading.specs.declared.prepared.Prepared.{Prepared}
-use Rattle.timing.specs.declared.Watch.{Watch}
-use Rattle.timing.specs.declared.Observation.{Observation}
 use Rattle.timing.specs.Timing.{all-standing}
-use Rattle.timing.specs.Stands.{quiet, Stands, Table-of}
-use Rattle.timing.specs.Mask.{mask-of, Bits-of}
+use Rattle.timing.specs.Stands.{quiet, Stands}
+use Rattle.timing.specs.Mask.{mask-of}
 use Rattle.timing.proofs.Masks.{mask-bits}
 use Rattle.timing.proofs.Table.{table-exact}
 use Rattle.faults.specs.declared.fault.Fault.{Fault}
 use Rattle.faults.specs.declared.fault.Fault.the-variants.{Undervoltage}
 use Rattle.faults.specs.Faults.{bitOf, all, timerOf, blocksCharge, blocksDischarge}
 use Rattle.faults.specs.Observed.{observation, observations, faultDelay, faultDelays}
-use Rattle.faults.specs.Blocking.{blocked, Some-blocks}
+use Rattle.faults.specs.Blocking.{blocked}
 use Rattle.faults.proofs.Order.{bit-below}
 use Rattle.faults.proofs.Exactly.{at-bit, exactly}
 use Rattle.calls.specs.declared.call.Call.{Call}
 use Rattle.calls.specs.Parsed.{parsed}
 use Rattle.answers.specs.declared.answer.Answer.{Answer}
 use Rattle.pack.specs.declared.state.State.{State}
-use Rattle.pack.specs.Steps.{Meaning, charges, discharges, shownAt, shown, permittedIn, refusalIn, after, outcome, answered}
-use Rattle.pack.specs.History.{heldOffs, hostLimit, callsOf, lastOf, sinceClear, seenBy}
-use Rattle.pack.specs.Exact.{bitAt, Standing, Switched, After-reading, Shows, Exact, left, Exact-after}
-use Rattle.pack.proofs.Tracking.{historyOf, Tracks, tracks, tracks-after}
+use Rattle.pack.specs.Steps.{Meaning, charges, shownAt, permittedIn, refusalIn, after, outcome, answered}
+use Rattle.pack.specs.History.{heldOffs, callsOf, sinceClear}
+use Rattle.pack.specs.Exact.{bitAt, Standing, Switched, Shows, Exact, left, Exact-after}
+use Rattle.pack.proofs.Tracking.{historyOf, Tracks, tracks}
 
 -- a table of the faults, read at a fault's bit
 by-bit : {X : Type 0} (g : Fault → X) (d : X) (f : Fault) → getD (map g all) (bitOf f) d ≡ g f

@@ -1,10 +1,10 @@
 -- The ages of the rows put in force the level that the readings say.
-use mathlib.Core.Path.{_≡_, refl, ap, sym, subst, _∙_}
+use mathlib.Core.Path.{_≡_, refl, sym, _∙_}
 use mathlib.Core.Bool.{Bool, true, false, cond}
 use mathlib.Core.List.{List, [], _∷_, map}
 use mathlib.Core.Logic.{_⊎_, inl, inr}
-use Prim.Native.Nat.{ℕ, zero, suc, _+_, _≤_, _<_, max, min}
-use native.Mathlib.Nat.{le-refl, le-antisymm}
+use Prim.Native.Nat.{ℕ, zero, suc, _+_, _≤_, _<_, max}
+use native.Mathlib.Nat.{le-refl}
 use native.Mathlib.Omega.{arith}
 use lib.Dec.{ltb}
 use lib.ListN.{length, getD, take}
@@ -17,7 +17,7 @@ use Rattle.sheet.specs.declared.limits.Row.{Row}
 use Rattle.sheet.specs.declared.limits.Limits.{Limits}
 use Rattle.sheet.specs.Charging.{noRow}
 use Rattle.reading.specs.declared.reading.Reading.{Reading}
-use Rattle.reading.specs.Regions.{reachedBy, rowAt, levelOf}
+use Rattle.reading.specs.Regions.{levelOf}
 use Rattle.inforce.specs.Ages.{Mark, ages-of, levelInForce}
 use Rattle.inforce.specs.Level.{total, Counts, In-force, times-of, levels-of}
 use Rattle.inforce.proofs.Exact.{level-exact}

@@ -1,10 +1,8 @@
 -- The state of a pack holds just what the accepted calls say.
 use mathlib.Core.Path.{_≡_, refl, ap, sym, subst, _∙_}
-use mathlib.Core.Bool.{Bool, true, false}
 use mathlib.Core.List.{List, [], _∷_, map}
-use Prim.Native.Nat.{ℕ, _<_}
-use native.Mathlib.Omega.{arith}
-use lib.ListN.{length, getD, replicate}
+use Prim.Native.Nat.{ℕ}
+use lib.ListN.{length, getD}
 use Rattle.std.specs.declared.option.Option.the-variants.{Some}
 use Rattle.std.specs.declared.result.Result.{Result}
 use Rattle.std.specs.declared.result.Result.the-variants.{Ok, Err}
@@ -15,17 +13,16 @@ use Rattle.reading.specs.declared.prepared.Prepared.{Prepared}
 use Rattle.reading.specs.Regions.{reachedBy, numberOf, levelOf}
 use Rattle.timing.specs.declared.Observation.{Observation}
 use Rattle.timing.specs.Timing.{idle, all-idle, all-stepped}
-use Rattle.timing.specs.Stands.{quiet, with-reading, Table-of}
+use Rattle.timing.specs.Stands.{quiet, Table-of}
 use Rattle.timing.proofs.Table.{table-after}
 use Rattle.inforce.specs.Ages.{aged, ages-of, levelInForce}
 use Rattle.faults.specs.Observed.{observations, faultDelays}
 use Rattle.calls.specs.declared.call.Call.{Call}
 use Rattle.calls.specs.declared.call.Call.the-variants.{Read, Word, Limit, Switch, Clear}
-use Rattle.calls.specs.declared.call.Offs.{Offs}
 use Rattle.calls.specs.declared.rejection.Rejection.{Rejection}
 use Rattle.calls.specs.Parsed.{parsed}
 use Rattle.pack.specs.declared.state.State.{State}
-use Rattle.pack.specs.Steps.{fresh, levelsOf, transition, rowFor, preparedBy, reads, moved, permittedIn, movedBy, after}
+use Rattle.pack.specs.Steps.{levelsOf, transition, rowFor, preparedBy, reads, moved, permittedIn, movedBy, after}
 use Rattle.pack.specs.History.{heldOffs, hostLimit, wordSince, readings, noted, callsOf, levelIn, preparedAfter, lastOf, sinceClear}
 use Rattle.pack.specs.Exact.{left}
 use Rattle.pack.proofs.Levels.{marksOf, level-is}

@@ -3,13 +3,12 @@ use mathlib.Core.Path.{_≡_, refl, sym, subst, ap, _∙_}
 use mathlib.Core.Bool.{Bool, true, false, cond, _&&_}
 use mathlib.Core.List.{List, [], _∷_}
 use mathlib.Core.Logic.{_⊎_, inl, inr}
-use Prim.Native.Nat.{ℕ, zero, suc, _≤_, _<_, _+_}
+use Prim.Native.Nat.{ℕ, suc, _≤_, _<_}
 use native.Mathlib.Omega.{arith}
-use native.Mathlib.Nat.{le-refl, le-trans}
+use native.Mathlib.Nat.{le-trans}
 use lib.Dec.{T, leb, leb→le, eqb}
 use lib.ListN.{length, getD, take, drop}
 use Rattle.std.specs.shelf.Lists.{sum}
-use Rattle.std.specs.Results.{isOk}
 use Rattle.std.specs.declared.option.Option.{Option}
 use Rattle.std.specs.declared.option.Option.the-variants.{Some, None}
 use Rattle.std.specs.declared.result.Result.{Result}
@@ -20,7 +19,7 @@ use Rattle.sheet.specs.declared.rule.Rule.{Rule}
 use Rattle.sheet.specs.declared.refusal.Refusal.{Refusal}
 use Rattle.sheet.specs.declared.refusal.Refusal.the-variants.{Length, Header, Entry, Sum, Range, Conflict}
 use Rattle.sheet.specs.Fields.{word, limitsOf}
-use Rattle.sheet.specs.Rules.{firstBroken, entryRules, rangeRules, levelRanges, degreeRanges, rowRanges, eachRow, stepRanges, timingRanges, conflictRules, levelConflicts, edgeConflicts, rowConflicts, stepConflicts}
+use Rattle.sheet.specs.Rules.{firstBroken, entryRules, rangeRules, eachRow, conflictRules}
 use Rattle.sheet.specs.Refusals.{numberOf, placeOf}
 use Rattle.sheet.specs.Decoded.{decoded, contents, summed, ranges, conflicts, headed, isSummed, next, unless, refuse}
 use Rattle.sheet.specs.Laws.{Broken-at, Breaks, No-later, First-broken, Judged}

@@ -1,6 +1,6 @@
 -- The image of a sheet is read as that sheet.
 use mathlib.Core.Path.{_≡_, refl, ap, subst, sym, _∙_}
-use mathlib.Core.Bool.{Bool, true, false, cond, _&&_}
+use mathlib.Core.Bool.{true, _&&_}
 use mathlib.Core.List.{List, [], _∷_}
 use Prim.Native.Nat.{ℕ, zero, suc, _+_, _*_, _/_, _%_, _<_}
 use native.Mathlib.Omega.{arith}
@@ -8,25 +8,22 @@ use lib.Dec.{eqb}
 use lib.IntN.{ℤ, pos, negsuc}
 use lib.ListN.{length, getD, drop}
 use lib.Signed.{mag}
-use lib.Seq.{drop-cons}
 use mir.Val.{toZ, ofZ}
 use mir.Syntax.{w8}
 use Rattle.std.specs.shelf.Lists.{sum}
-use Rattle.std.specs.declared.option.Option.{Option}
-use Rattle.std.specs.declared.option.Option.the-variants.{Some, None}
+use Rattle.std.specs.declared.option.Option.the-variants.{None}
 use Rattle.std.specs.declared.result.Result.the-variants.{Ok}
 use Rattle.std.proofs.shelf.Lists.{drop-more, drop-all}
 use Rattle.std.proofs.shelf.Signed.{ints}
 use Rattle.std.proofs.shelf.Ways.{tells}
 use Rattle.std.proofs.shelf.Tests.{and-parts, eqb-true, eq-eqb}
-use Rattle.sheet.specs.declared.limits.Row.{Row}
 use Rattle.sheet.specs.declared.limits.Limits.{Limits}
 use Rattle.sheet.specs.declared.rule.Rule.{Rule}
-use Rattle.sheet.specs.declared.refusal.Refusal.the-variants.{Sum, Range, Conflict}
-use Rattle.sheet.specs.Fields.{word, levelsOf, degreesOf, rowOf, stepsOf, timingOf, limitsOf}
+use Rattle.sheet.specs.declared.refusal.Refusal.the-variants.{Sum}
+use Rattle.sheet.specs.Fields.{limitsOf}
 use Rattle.sheet.specs.Rules.{firstBroken, allKept, rangeRules, conflictRules}
 use Rattle.sheet.specs.Accepted.{sound, fits, isByte, allBytes, degreesFit, lengthsFit}
-use Rattle.sheet.specs.Decoded.{decoded, contents, summed, ranges, conflicts, next, refuse, unless, isSummed}
+use Rattle.sheet.specs.Decoded.{decoded, contents, summed, ranges, conflicts, unless}
 use Rattle.sheet.specs.Encoded.{bodyOf, imageOf}
 use Rattle.sheet.specs.Charging.{noRow}
 use Rattle.sheet.proofs.Signs.{kept}

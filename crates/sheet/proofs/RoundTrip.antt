@@ -1,19 +1,18 @@
 -- An accepted image is the image of its sheet.
-use mathlib.Core.Path.{_≡_, refl, ap, sym, subst, _∙_}
-use mathlib.Core.Bool.{true, _&&_}
-use mathlib.Core.List.{List, [], _∷_, _++_}
-use Prim.Native.Nat.{ℕ, _+_, _*_, _<_, _≤_}
+use mathlib.Core.Path.{_≡_, ap, sym, _∙_}
+use mathlib.Core.Bool.{_&&_}
+use mathlib.Core.List.{List, _++_}
+use Prim.Native.Nat.{ℕ, _+_, _<_}
 use native.Mathlib.Omega.{arith}
 use lib.Dec.{eqb}
 use lib.ListN.{length, getD, take, drop}
-use Rattle.std.specs.shelf.Lists.{All, sum, joined}
+use Rattle.std.specs.shelf.Lists.{sum}
 use Rattle.std.specs.declared.result.Result.the-variants.{Ok}
 use Rattle.std.proofs.shelf.Tests.{and-parts, eqb-true}
 use Rattle.std.proofs.shelf.Lists.{getD-drop, take-all, take-append-drop, length-drop}
 use Rattle.sheet.specs.declared.limits.Limits.{Limits}
-use Rattle.sheet.specs.declared.rule.Rule.{Rule}
 use Rattle.sheet.specs.declared.refusal.Refusal.the-variants.{Length, Header, Entry, Sum}
-use Rattle.sheet.specs.Fields.{word, levelsOf, degreesOf, rowOf, stepsOf, timingOf, limitsOf}
+use Rattle.sheet.specs.Fields.{word, limitsOf}
 use Rattle.sheet.specs.Rules.{firstBroken, entryRules}
 use Rattle.sheet.specs.Decoded.{decoded, contents, summed, ranges, conflicts, next, refuse}
 use Rattle.sheet.specs.Encoded.{pair, contentBytes, bodyOf, imageOf}

@@ -1,13 +1,10 @@
 -- What was read from an accepted image keeps the invariant of a sheet.
 use mathlib.Core.Path.{_≡_, refl, ap, _∙_, sym}
 use mathlib.Core.Bool.{Bool, true, false, cond, _&&_}
-use mathlib.Core.List.{List, [], _∷_, _++_}
-use Prim.Native.Nat.{ℕ, _<_, _+_, _*_}
+use mathlib.Core.List.{List, [], _∷_}
+use Prim.Native.Nat.{ℕ, _<_}
 use native.Mathlib.Omega.{arith}
-use lib.Dec.{ltb}
-use lib.IntN.{ℤ, pos, negsuc}
 use lib.ListN.{getD}
-use lib.Signed.{leZ}
 use mir.Val.{toZ}
 use mir.Syntax.{w8}
 use Rattle.std.specs.Vec.{made}
@@ -17,14 +14,14 @@ use Rattle.std.specs.declared.result.Result.{Result}
 use Rattle.std.specs.declared.result.Result.the-variants.{Ok, Err}
 use Rattle.std.proofs.shelf.Signed.{ints}
 use Rattle.std.proofs.shelf.Ways.{tells}
-use Rattle.std.proofs.shelf.Tests.{and-parts, and-from, lt-ltb}
+use Rattle.std.proofs.shelf.Tests.{and-from}
 use Rattle.sheet.specs.declared.limits.Limits.{Limits}
 use Rattle.sheet.specs.declared.rule.Rule.{Rule}
 use Rattle.sheet.specs.declared.refusal.Refusal.{Refusal}
 use Rattle.sheet.specs.declared.refusal.Refusal.the-variants.{Range, Conflict}
-use Rattle.sheet.specs.Fields.{word, limitsOf}
+use Rattle.sheet.specs.Fields.{limitsOf}
 use Rattle.sheet.specs.Rules.{firstBroken, allKept, rangeRules, conflictRules}
-use Rattle.sheet.specs.Accepted.{sound, fits, isByte, allBytes}
+use Rattle.sheet.specs.Accepted.{sound, fits, isByte}
 use Rattle.sheet.specs.Decoded.{decoded, ranges, conflicts}
 use Rattle.sheet.specs.Laws.{Bytes}
 use Rattle.sheet.proofs.Parts.{refuse-ok}

@@ -1,6 +1,6 @@
 -- What an image's fields write back: the bytes that they were read from.
 use mathlib.Core.Path.{_≡_, refl, ap, sym, _∙_}
-use mathlib.Core.List.{List, [], _∷_, _++_}
+use mathlib.Core.List.{List, [], _∷_}
 use Prim.Native.Nat.{ℕ, zero, suc, _+_, _*_, _/_, _%_, _<_, _≤_}
 use native.Mathlib.Omega.{arith}
 use lib.ListN.{length, getD, take, drop}
@@ -9,8 +9,8 @@ use mir.Syntax.{w8}
 use Rattle.std.specs.shelf.Lists.{joined}
 use Rattle.std.proofs.shelf.Lists.{drop-more}
 use Rattle.std.proofs.shelf.Signed.{ofZ-toZ}
-use Rattle.sheet.specs.Fields.{word, levelsOf, degreesOf, rowOf, stepsOf, timingOf, limitsOf}
-use Rattle.sheet.specs.Encoded.{pair, levelBytes, degreeBytes, rowBytes, stepBytes, timingBytes}
+use Rattle.sheet.specs.Fields.{levelsOf, degreesOf, stepsOf, timingOf, limitsOf}
+use Rattle.sheet.specs.Encoded.{levelBytes, degreeBytes, rowBytes, stepBytes, timingBytes}
 
 -- n bytes from place i on
 abbrev pub spelled : ℕ → ℕ → List ℕ → List ℕ

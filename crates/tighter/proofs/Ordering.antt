@@ -1,9 +1,9 @@
 -- A tighter pack never does more: from what both answers say of the same accepted calls.
 use mathlib.Core.Path.{_≡_, refl, ap, sym, subst, _∙_}
 use mathlib.Core.Bool.{Bool, true, false, cond}
-use mathlib.Core.List.{List, [], _∷_, map}
-use mathlib.Core.Logic.{_⊎_, inl, inr}
-use Prim.Native.Nat.{ℕ, _+_, _≤_, _<_, max, min}
+use mathlib.Core.List.{List, [], _∷_}
+use mathlib.Core.Logic.{inl, inr}
+use Prim.Native.Nat.{ℕ, _+_, _≤_, _<_, min}
 use native.Mathlib.Omega.{arith}
 use lib.Dec.{ltb, eqb}
 use lib.ListN.{length, getD}
@@ -31,7 +31,7 @@ use Rattle.timing.proofs.Order.{stands-ordered}
 use Rattle.faults.specs.declared.fault.Fault.{Fault}
 use Rattle.faults.specs.declared.fault.Fault.the-variants.{Undervoltage}
 use Rattle.faults.specs.Faults.{bitOf, all, blocksCharge, blocksDischarge}
-use Rattle.faults.specs.Observed.{observation, faultDelay}
+use Rattle.faults.specs.Observed.{faultDelay}
 use Rattle.faults.specs.Order.{Same-reading}
 use Rattle.faults.proofs.Order.{tighter, fault-no-longer}
 use Rattle.prescribers.specs.Order.{Under}
@@ -42,11 +42,11 @@ use Rattle.calls.specs.Laws.{Ranged, Ranged-result}
 use Rattle.answers.specs.declared.answer.Answer.{Answer}
 use Rattle.pack.specs.declared.state.State.{State}
 use Rattle.pack.specs.Steps.{Meaning, transition, answered}
-use Rattle.pack.specs.History.{heldOffs, hostLimit, wordSince, readings, noted, callsOf, greatest, levelIn, preparedAfter, lastOf, sinceClear, seenBy}
-use Rattle.pack.specs.Exact.{bitAt, Standing, Switched, After-reading, Shows, Exact, left}
+use Rattle.pack.specs.History.{heldOffs, hostLimit, readings, noted, callsOf, greatest, levelIn, preparedAfter, lastOf, seenBy}
+use Rattle.pack.specs.Exact.{bitAt, Standing, Switched, After-reading, Shows}
 use Rattle.pack.proofs.Answering.{exact-in}
 use Rattle.pack.proofs.Permitting.{accepted-ranged}
-use Rattle.tighter.specs.Order.{Never-more, answerAfter, Tighter-never-more, Tighter-call}
+use Rattle.tighter.specs.Order.{Never-more, answerAfter, Tighter-call}
 
 -- every accepted call is in range
 noted-ranged : (cs : List Call) (r : Result Call Rejection) → Ranged-result r → All Ranged cs → All Ranged (noted cs r)

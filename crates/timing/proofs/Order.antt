@@ -39,7 +39,7 @@ held-le false true h k e p q = omega arith
 held-le false false h k e p q = omega arith
 
 -- one reading, two watches
-pub stepped-ahead : (d e : ℕ) (o q : Observation) (w v : Watch) → d ≤ e → Tighter o q → Ahead w v → Ahead (stepped d o w) (stepped e q v)
+stepped-ahead : (d e : ℕ) (o q : Observation) (w v : Watch) → d ≤ e → Tighter o q → Ahead w v → Ahead (stepped d o w) (stepped e q v)
 stepped-ahead d e o q w v le t a =
     let held : held-after q (v .held) ≤ held-after o (w .held) = rw (t .elapsed) (held-le (q .trips) (o .trips) (v .held) (w .held) (q .elapsed) (t .trips) (a .held)) in
     record {
@@ -51,7 +51,7 @@ stepped-ahead d e o q w v le t a =
     }
 
 -- and two tables
-pub tables-ahead : (ds es : List ℕ) (os qs : List Observation) (ws vs : List Watch) → Each (λ d e. d ≤ e) ds es → Each Tighter os qs → Each Ahead ws vs → Each Ahead (all-stepped ds os ws) (all-stepped es qs vs)
+tables-ahead : (ds es : List ℕ) (os qs : List Observation) (ws vs : List Watch) → Each (λ d e. d ≤ e) ds es → Each Tighter os qs → Each Ahead ws vs → Each Ahead (all-stepped ds os ws) (all-stepped es qs vs)
 tables-ahead [] [] os qs ws vs p q r = r
 tables-ahead [] (e ∷ es) os qs ws vs p q r = absurd p
 tables-ahead (d ∷ ds) [] os qs ws vs p q r = absurd p

@@ -3,7 +3,7 @@ use mathlib.Core.List.{_∷_}
 use Prim.Native.Nat.{_+_}
 use native.Mathlib.Omega.{arith}
 use denote.Ref.{now}
-use lib.ListN.{length, getD, take}
+use lib.ListN.{getD, take}
 use Rattle.std.proofs.shelf.Lists.{take-all}
 use Rattle.sheet.proofs.Facts.{lengths}
 use Rattle.pack.specs.Steps.{Meaning}

@@ -1,6 +1,4 @@
 use mathlib.Core.Path.{_≡_, subst, _∙_}
-use Rattle.order.specs.Generous.{Generous}
-use Rattle.prescribers.specs.Order.{Under}
 use Rattle.prescribers.specs.Usual.{stackGives, usualGives}
 use Rattle.prescribers.proofs.Order.{usual-ordered}
 use Rattle.pack.specs.Steps.{Meaning}

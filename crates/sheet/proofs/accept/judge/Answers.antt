@@ -1,7 +1,5 @@
 use mathlib.Core.Path.{_≡_, sym, subst}
 use mathlib.Core.Bool.{true}
-use mathlib.Core.List.{List}
-use Prim.Native.Nat.{ℕ}
 use Rattle.sheet.specs.Accepted.{sound, fits}
 use Rattle.sheet.specs.Decoded.{decoded}
 use Rattle.sheet.specs.Laws.{Bytes, Judged, Writes-back, One-image}

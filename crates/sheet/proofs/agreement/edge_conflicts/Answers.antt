@@ -1,6 +1,5 @@
 use borrow.Author.Needs.{needs}
 use Rattle.sheet.proofs.Signs.{kept}
-use Rattle.sheet.specs.Rules.{edgeConflicts}
 use Rattle.sheet.proofs.agreement.edge_conflicts.Needs as need
 
 pub returns : need.returns

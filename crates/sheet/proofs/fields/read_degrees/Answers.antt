@@ -1,6 +1,5 @@
 use borrow.Author.Needs.{needs}
 use Rattle.sheet.proofs.Signs.{kept}
-use Rattle.sheet.specs.Fields.{degreesOf}
 use Rattle.sheet.proofs.fields.read_degrees.Needs as need
 
 pub returns : need.returns

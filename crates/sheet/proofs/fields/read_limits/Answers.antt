@@ -1,4 +1,3 @@
-use borrow.Author.Needs.{needs}
 use Rattle.sheet.specs.Fields.{limitsOf}
 use Rattle.sheet.proofs.fields.read_limits.Needs as need
 

@@ -1,8 +1,5 @@
-use borrow.Author.Needs.{needs}
-use mathlib.Core.Path.{ap, _∙_, _≡_, sym}
 use mathlib.Core.Bool.{false}
 use native.Mathlib.Omega.{arith}
-use lib.ListN.{length, drop}
 use Rattle.std.proofs.shelf.Lists.{at-drop-more, at-drop-all}
 use Rattle.sheet.specs.Rules.{firstBroken}
 use Rattle.sheet.proofs.rule.first_broken.Needs as need

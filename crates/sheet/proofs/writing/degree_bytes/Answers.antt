@@ -1,6 +1,5 @@
 use borrow.Author.Needs.{needs}
 use Rattle.sheet.proofs.Signs.{kept}
-use Rattle.sheet.specs.Encoded.{degreeBytes}
 use Rattle.sheet.proofs.writing.degree_bytes.Needs as need
 
 pub returns : need.returns

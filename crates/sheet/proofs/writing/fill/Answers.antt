@@ -1,9 +1,8 @@
 use native.Mathlib.Omega.{arith}
-use mathlib.Core.Path.{_≡_, refl, sym, ap, _∙_}
-use lib.ListN.{length, take}
+use mathlib.Core.Path.{ap}
 use Rattle.std.specs.shelf.Lists.{sum}
 use Rattle.std.proofs.shelf.Lists.{take-all}
-use Rattle.sheet.specs.Encoded.{imageOf, bodyOf}
+use Rattle.sheet.specs.Encoded.{imageOf}
 use Rattle.sheet.proofs.writing.fill.Needs as need
 
 pub returns : need.returns

@@ -1,7 +1,6 @@
 use borrow.Author.Needs.{needs}
-use mathlib.Core.Path.{_≡_, refl, ap, _∙_}
-use mathlib.Core.List.{List, _++_}
-use lib.ListN.{length}
+use mathlib.Core.Path.{refl, ap, _∙_}
+use mathlib.Core.List.{_++_}
 use Rattle.std.specs.shelf.Lists.{joined}
 use Rattle.sheet.specs.Encoded.{rowBytes}
 use Rattle.sheet.proofs.Growing.{grow, grown}

@@ -1,7 +1,7 @@
 use mathlib.Core.Path.{_≡_}
 use mathlib.Core.List.{_++_}
 use Prim.Native.Nat.{_+_, _*_}
-use lib.ListN.{take, length}
+use lib.ListN.{take}
 use Rattle.std.specs.shelf.Lists.{joined}
 use Rattle.sheet.specs.Encoded.{rowBytes}
 use Rattle.sheet.proofs.writing.put_rows.Given as given

@@ -1,16 +1,12 @@
 use borrow.Author.Needs.{needs}
 use mathlib.Core.Path.{_≡_, ap, _∙_}
 use mathlib.Core.Bool.{false}
-use mathlib.Core.List.{List}
-use Prim.Native.Nat.{ℕ}
-use lib.IntN.{ℤ}
 use mir.Val.{toZ, ofZ, SFits}
 use mir.Syntax.{w8, w16}
 use Rattle.std.proofs.shelf.Signed.{toZ-ofZ}
 use Rattle.std.specs.declared.option.Option.the-variants.{Some}
 use Rattle.reading.specs.declared.prepared.Prepared.{Prepared}
 use Rattle.reading.specs.Regions.{reachedBy, rowAt, numberOf, levelAt, levelOf}
-use Rattle.timing.specs.declared.Watch.{Watch}
 use Rattle.timing.specs.Timing.{all-stepped}
 use Rattle.inforce.specs.Ages.{aged, levelInForce}
 use Rattle.faults.specs.Observed.{observations, faultDelays}
