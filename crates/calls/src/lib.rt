@@ -1,4 +1,6 @@
 // What a record of bytes asks of a pack: one of five kinds of call, or a refusal.
+#![tactic(auto)]
+
 mod call;
 mod fields;
 mod kinds;

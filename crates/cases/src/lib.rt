@@ -1,4 +1,6 @@
 // The sample sheet that is shipped, with worked cases.
+#![tactic(auto)]
+
 ghost use Rattle.std.specs.Prelude.{◌≡◌};
 ghost use Rattle.cases.specs.Sample.{sample_image};
 ghost use Rattle.cases.specs.Cases.{WorkedCases};

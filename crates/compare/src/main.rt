@@ -1,4 +1,6 @@
 // Compares two sheets for the workshop: a pack on each is given the same records, and both answers are printed side by side.
+#![tactic(auto)]
+
 use feed::fill;
 use order::at_least_as_generous;
 use pack::Pack;

@@ -1,5 +1,7 @@
 // Answers many cases, for the tests: each is a sheet image and the records for a new pack on it. Every image and every record comes with
 // its length, so that those of a wrong length can be tried too.
+#![tactic(auto)]
+
 use pack::Pack;
 use prescribers::{UsualStack, usual};
 use sheet::{Sheet, Verdict};

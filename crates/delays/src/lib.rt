@@ -1,4 +1,6 @@
 // The delay word nDelayCfg: the setting of each timer in it, and the delay in milliseconds that the setting stands for.
+#![tactic(auto)]
+
 ghost use Rattle.std.specs.Prelude.{◌≡◌, ◌%◌, ◌<◌, true, length, Decides, nat_le, slice_index};
 ghost use Rattle.delays.specs.Delays.{setting_of, table, delay_of, NoShorter, SettingsNoLower, DelaysNoShorter};
 

@@ -1,4 +1,6 @@
 // The thirteen faults: what trips and releases each, how long it waits, and which switch it blocks.
+#![tactic(auto)]
+
 mod blocking;
 mod fault;
 mod observing;

@@ -1,4 +1,6 @@
 // Input for a program, in pieces of a known size.
+#![tactic(auto)]
+
 ghost use Rattle.std.specs.Prelude.{◌≤◌, length, IfOk};
 
 use std::io;

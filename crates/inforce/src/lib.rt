@@ -2,6 +2,8 @@
 //
 // It is the greatest among the reading's own level and that of every earlier reading whose later elapsed times, this one's
 // included, total less than the transition delay. One age for each row is all that has to be kept.
+#![tactic(auto)]
+
 ghost use Rattle.std.specs.Prelude.{◌≡◌, map, nat_lt, slice_set};
 ghost use Rattle.inforce.specs.Ages.{unseen, older_by, aged, raised_by, level_in_force};
 ghost use Rattle.inforce.specs.Level.{LevelExact, LevelOrdered};

@@ -1,4 +1,6 @@
 // Whether an image is one of a sheet: its limits, or the refusal that it is owed.
+#![tactic(auto)]
+
 mod accept;
 mod agreement;
 mod broken;

@@ -1,4 +1,6 @@
 // What the bytes of a sheet's image mean: its fields, the rules that they keep, and why an image is refused.
+#![tactic(auto)]
+
 mod fields;
 mod limits;
 mod refusal;

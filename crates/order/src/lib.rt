@@ -1,4 +1,6 @@
 // Whether one sheet is at least as generous as another: a pack on the tighter one then never does what the other would not.
+#![tactic(auto)]
+
 mod fields;
 mod generous;
 mod zones;

@@ -1,4 +1,6 @@
 // Minds a pack: a sheet image and then records come in on standard input, and a line for each of them goes out.
+#![tactic(auto)]
+
 use feed::fill;
 use pack::Pack;
 use prescribers::{UsualStack, usual};

@@ -1,4 +1,6 @@
 // Prescribers: what current and voltage the charger may give at a reading.
+#![tactic(auto)]
+
 mod flat;
 mod out_of_range;
 mod precharge;

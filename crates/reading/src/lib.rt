@@ -1,4 +1,6 @@
 // A reading of the pack, the temperature region that it lies in, and the over-voltage level there.
+#![tactic(auto)]
+
 mod prepared;
 mod reading;
 mod region;

@@ -1,4 +1,6 @@
 // The sheet of a pack's limits: its image of 116 bytes is read, judged and written back.
+#![tactic(auto)]
+
 mod sheet;
 mod verdict;
 

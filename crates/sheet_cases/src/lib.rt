@@ -1,4 +1,6 @@
 // The boundaries of each kind of rule of the sheet image, on both sides, from a table. The stored cases of `corpus` have every place.
+#![tactic(auto)]
+
 #[cfg(test)]
 mod tests {
     use sheet::{Sheet, Verdict};

@@ -1,5 +1,7 @@
 // Reads and decides as packminder does, but prints no line for a record: only, at the end, how many came and the sum of all numbers
 // of their answers. With it the work of deciding is measured apart from that of printing.
+#![tactic(auto)]
+
 use answers::Answer;
 use feed::fill;
 use pack::Pack;

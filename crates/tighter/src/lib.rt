@@ -1,4 +1,6 @@
 // A tighter sheet never does more: a tight and a loose pack, both new, fed the same records.
+#![tactic(auto)]
+
 ghost use Rattle.std.specs.Prelude.{◌≡◌};
 ghost use Rattle.pack.specs.Steps.{fresh, after, answered};
 ghost use Rattle.order.specs.Generous.{Generous};

@@ -1,6 +1,8 @@
 // How a fault is timed: debounce with hysteresis, one text for every fault.
 //
 // A fault stands once an unbroken stretch of readings that trip it has lasted for its delay, and then until a reading releases it.
+#![tactic(auto)]
+
 ghost use Rattle.std.specs.Prelude.{◌≡◌, ◌+◌, ◌*◌, ◌<◌, if◌then◌else◌, slice_index_or, slice_set};
 ghost use Rattle.timing.specs.Mask.{mask_of, BitsOf};
 ghost use Rattle.timing.specs.Order.{LevelStart, OrderedAfter};

@@ -1,4 +1,6 @@
 // A sheet written as its image.
+#![tactic(auto)]
+
 ghost use Rattle.std.specs.Prelude.{◌≡◌, ◌+◌, ◌*◌, ◌≤◌, true, ◌++◌, length, take, Ok};
 ghost use Rattle.std.specs.List.{flat_map};
 ghost use Rattle.layout.specs.Accepted.{sound, fits};
