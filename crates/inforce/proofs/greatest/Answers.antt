@@ -19,7 +19,7 @@ loop-k-preserved c =
 pub returns : goal.returns
 returns c =
     let delay = c.args.delay in
-    let own = c.args.own_val in
+    let own = c.args.own in
     let ages = c.args.ages.now in
     let levels = c.args.levels.now in
     let best = c.loop-k.best in

@@ -12,7 +12,7 @@ loop-row-preserved c =
     let age = get_or table k 0 in
     let inv : table ≡ map (older_by c.args.elapsed) (take k ages) ++ drop k ages = c.loop-row.invariant in
     let within : k < length table = omega (arith, simp (length-append, length-map, length-take, length-drop) at (ap length inv)) in
-    let sum : c.saturating-add.result ≡ older_by c.args.elapsed age = c.saturating-add.ensures ∙ ap (λ e. min (age + e) 4294967295) c.from.ensures in
+    let sum : c.saturating_add.result ≡ older_by c.args.elapsed age = c.saturating_add.ensures ∙ ap (λ e. min (age + e) 4294967295) c.from.ensures in
     ap (set table k) sum ∙ map_over_more (older_by c.args.elapsed) ages table k age (omega arith) inv (get_or_default table k 0 age within)
 
 pub returns : goal.returns

@@ -13,10 +13,10 @@ returns g c =
       tight = c.call-a.ensures.answer;
       loose = c.call-b.ensures.answer;
       ordered = never_more_call s.limits t.limits (lengths s.limits s.sized).rows (lengths t.limits t.sized).rows f k c.args.tight.now.state c.args.loose.now.state c.args.bytes.now c.call-a.result c.call-b.result c.call-a.ensures.answer c.call-b.ensures.answer;
-      tight-sheet = c.call-a.ensures.sheet;
-      tight-prescriber = c.call-a.ensures.prescriber;
-      tight-state = c.call-a.ensures.state;
-      loose-sheet = c.call-b.ensures.sheet;
-      loose-prescriber = c.call-b.ensures.prescriber;
-      loose-state = c.call-b.ensures.state;
+      tight_sheet = c.call-a.ensures.sheet;
+      tight_prescriber = c.call-a.ensures.prescriber;
+      tight_state = c.call-a.ensures.state;
+      loose_sheet = c.call-b.ensures.sheet;
+      loose_prescriber = c.call-b.ensures.prescriber;
+      loose_state = c.call-b.ensures.state;
     }

@@ -24,13 +24,13 @@ loop-bytes-preserved g c =
     let n = ap (λ s. s.limits) inv.3 in
     let p = ap g.P.Prescriber.gives inv.1 in
     let q = ap g.Q.Prescriber.gives inv.4 in (
-      c.call-both.ensures.tight-sheet ∙ inv.0,
-      c.call-both.ensures.tight-prescriber ∙ inv.1,
-      state_more _ a _ _ bytes rest more c.call-both.ensures.tight-state m inv.2 e,
-      c.call-both.ensures.loose-sheet ∙ inv.3,
-      c.call-both.ensures.loose-prescriber ∙ inv.4,
-      state_more _ b _ _ bytes rest more c.call-both.ensures.loose-state n inv.5 e,
-      both_more a f b k c.call-both.result bytes rest more (answer_more _ a _ f _ _ bytes rest c.call-both.ensures.tight m p inv.2) (answer_more _ b _ k _ _ bytes rest c.call-both.ensures.loose n q inv.5) e,
+      c.call_both.ensures.tight_sheet ∙ inv.0,
+      c.call_both.ensures.tight_prescriber ∙ inv.1,
+      state_more _ a _ _ bytes rest more c.call_both.ensures.tight_state m inv.2 e,
+      c.call_both.ensures.loose_sheet ∙ inv.3,
+      c.call_both.ensures.loose_prescriber ∙ inv.4,
+      state_more _ b _ _ bytes rest more c.call_both.ensures.loose_state n inv.5 e,
+      both_more a f b k c.call_both.result bytes rest more (answer_more _ a _ f _ _ bytes rest c.call_both.ensures.tight m p inv.2) (answer_more _ b _ k _ _ bytes rest c.call_both.ensures.loose n q inv.5) e,
     )
 
 pub returns : goal.returns

@@ -14,6 +14,6 @@ returns c =
     let k : ◌≡◌ {A = Meaning} (stack_gives c.usual-generous.result) (usual_gives t.limits) = λ i r. c.usual-generous.ensures.meaning r i in
     let law : Meaning → Meaning → Type 0 = λ x y. TighterNeverMore s.limits x t.limits y rs in
     record {
-      last = c.run-both.ensures.last ∙ (λ i. last_answers s.limits (f i) t.limits (k i) rs);
-      ordered = λ g. subst (λ x. law x (usual_gives t.limits)) f (subst (law (stack_gives c.usual-cautious.result)) k c.run-both.ensures.ordered) g (usual_ordered s t g);
+      last = c.run_both.ensures.last ∙ (λ i. last_answers s.limits (f i) t.limits (k i) rs);
+      ordered = λ g. subst (λ x. law x (usual_gives t.limits)) f (subst (law (stack_gives c.usual-cautious.result)) k c.run_both.ensures.ordered) g (usual_ordered s t g);
     }

@@ -7,15 +7,15 @@ use Rattle.timing.proofs.mask.Goals as goal
 pub loop-k-init : goal.loop-k-init
 loop-k-init c = sym (ap mask_of (drop_all 13 c.args.faults.now (omega arith)))
 
-pub with-bit-word-requires : goal.with-bit-word-requires
-with-bit-word-requires c =
+pub with_bit-word-requires : goal.with_bit-word-requires
+with_bit-word-requires c =
     let rest = drop c.loop-k.k c.args.faults.now in
     let short : length rest ≤ 12 = simp length-drop (omega arith) in
     let e : c.loop-k.word ≡ mask_of rest = c.loop-k.invariant in
     omega (arith, mask_lt rest 12 short, e)
 
 pub loop-k-preserved : goal.loop-k-preserved
-loop-k-preserved c = c.with-bit-word.ensures ∙ mask_down c.args.faults.now c.loop-k.k c.loop-k.word c.loop-k-test.true (omega arith) c.loop-k.invariant
+loop-k-preserved c = c.with_bit-word.ensures ∙ mask_down c.args.faults.now c.loop-k.k c.loop-k.word c.loop-k-test.true (omega arith) c.loop-k.invariant
 
 pub returns : goal.returns
 returns c =

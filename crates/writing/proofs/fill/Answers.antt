@@ -8,5 +8,5 @@ pub returns : goal.returns
 unfolding image_of
 returns c =
     let all = take_all 116 c.put.new.out (omega arith) in
-    let end = grow 114 2 116 c.put.new.out c.fill-body.new.out c.word-bytes.result _ _ c.put.ensures (search rules) refl c.word-bytes.ensures c.fill-body.ensures in
-    sym all ∙ end ∙ ap (λ n. body_of c.args.l.now ++ pair n) (c.body-sum-sum.ensures ∙ ap sum c.fill-body.ensures)
+    let end = grow 114 2 116 c.put.new.out c.fill_body.new.out c.word_bytes.result _ _ c.put.ensures (search rules) refl c.word_bytes.ensures c.fill_body.ensures in
+    sym all ∙ end ∙ ap (λ n. body_of c.args.l.now ++ pair n) (c.body_sum-sum.ensures ∙ ap sum c.fill_body.ensures)

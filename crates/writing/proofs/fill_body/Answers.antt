@@ -6,8 +6,8 @@ use Rattle.writing.proofs.fill_body.Goals as goal
 
 pub returns : goal.returns
 returns c =
-    let e2 = grow_words 22 11 44 c.put-words.new.out c.put.new.out c.level-words.result _ _ c.put-words.ensures (search rules) refl c.level-words.ensures c.put.ensures in
-    let e3 = grow 44 12 56 c.put-2.new.out c.put-words.new.out c.degree-bytes.result _ _ c.put-2.ensures (search rules) refl c.degree-bytes.ensures e2 in
-    let e4 = c.put-rows.ensures ∙ ap (λ b. b ++ flat_map row_bytes c.args.l.now.rows) e3 in
-    let e5 = c.put-steps.ensures ∙ ap (λ b. b ++ step_bytes c.args.l.now.steps) e4 in
-    c.put-words-2.ensures ∙ ap (λ b. b ++ timing_bytes c.args.l.now.timing) e5 ∙ grown c.args.l.now
+    let e2 = grow_words 22 11 44 c.put_words.new.out c.put.new.out c.level_words.result _ _ c.put_words.ensures (search rules) refl c.level_words.ensures c.put.ensures in
+    let e3 = grow 44 12 56 c.put-2.new.out c.put_words.new.out c.degree_bytes.result _ _ c.put-2.ensures (search rules) refl c.degree_bytes.ensures e2 in
+    let e4 = c.put_rows.ensures ∙ ap (λ b. b ++ flat_map row_bytes c.args.l.now.rows) e3 in
+    let e5 = c.put_steps.ensures ∙ ap (λ b. b ++ step_bytes c.args.l.now.steps) e4 in
+    c.put_words-2.ensures ∙ ap (λ b. b ++ timing_bytes c.args.l.now.timing) e5 ∙ grown c.args.l.now

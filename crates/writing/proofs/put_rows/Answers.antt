@@ -9,7 +9,7 @@ pub loop-row-preserved : goal.loop-row-preserved
 loop-row-preserved c =
     let more = take_more c.args.rows.now c.loop-row.row-index no_row (omega arith) in
     let join = flat_map_more row_bytes (take 56 c.args.out.now) (take c.loop-row.row-index c.args.rows.now) (get_or c.args.rows.now c.loop-row.row-index no_row) in
-    (omega arith, c.put-words.ensures ∙ ap (λ b. b ++ row_bytes (get_or c.args.rows.now c.loop-row.row-index no_row)) c.loop-row.invariant.1 ∙ join ∙ ap (λ rs. take 56 c.args.out.now ++ flat_map row_bytes rs) (sym more))
+    (omega arith, c.put_words.ensures ∙ ap (λ b. b ++ row_bytes (get_or c.args.rows.now c.loop-row.row-index no_row)) c.loop-row.invariant.1 ∙ join ∙ ap (λ rs. take 56 c.args.out.now ++ flat_map row_bytes rs) (sym more))
 
 pub returns : goal.returns
 returns c =

@@ -9,7 +9,7 @@ pub loop-word-preserved : goal.loop-word-preserved
 loop-word-preserved c =
     let more = take_more c.args.words.now c.loop-word.word-index 0 (omega arith) in
     let join = flat_map_more pair (take c.args.at c.args.out.now) (take c.loop-word.word-index c.args.words.now) (get_or c.args.words.now c.loop-word.word-index 0) in
-    let next = grow c.loop-word.place 2 (c.loop-word.place + 2) c.put.new.out c.loop-word.out c.word-bytes.result _ _ c.put.ensures (ap length c.word-bytes.ensures) refl c.word-bytes.ensures c.loop-word.invariant.1 in
+    let next = grow c.loop-word.place 2 (c.loop-word.place + 2) c.put.new.out c.loop-word.out c.word_bytes.result _ _ c.put.ensures (ap length c.word_bytes.ensures) refl c.word_bytes.ensures c.loop-word.invariant.1 in
     (omega arith, next ∙ join ∙ ap (λ ws. take c.args.at c.args.out.now ++ flat_map pair ws) (sym more))
 
 pub returns : goal.returns

@@ -19,7 +19,7 @@ other m h = rw (ne_eqb (length m) 12 h)
 pub returns-then-bytes-eq12 : goal.returns-then-bytes-eq12
 returns-then-bytes-eq12 c =
     let m = c.args.bytes.now in
-    let e = c.parse-kind.ensures ∙ long m (omega arith) in
+    let e = c.parse_kind.ensures ∙ long m (omega arith) in
     record { value = e; exact = subst (ParsedExactly m) (sym e) (exact m); ranged = subst RangedResult (sym e) (ranged m) }
 
 pub returns-else-bytes-eq12 : goal.returns-else-bytes-eq12

@@ -10,7 +10,7 @@ loop-fault-init c = refl
 
 pub loop-fault-preserved : goal.loop-fault-preserved
 loop-fault-preserved c =
-    c.loop-fault.invariant ∙ passed (blocks c.args.switch) c.args.standing.now all c.loop-fault.fault-index _ c.loop-fault-test.true c.if-blocks-now.ensures
+    c.loop-fault.invariant ∙ passed (blocks c.args.switch) c.args.standing.now all c.loop-fault.fault-index _ c.loop-fault-test.true c.if-blocks_now.ensures
 
 pub returns : goal.returns
 returns c =
@@ -20,9 +20,9 @@ returns c =
     let value : false ≡ blocked blocking standing = sym (c.loop-fault.invariant ∙ subst (λ (i : ℕ). blocked_by blocking standing (drop i all) ≡ false) (sym end) refl) in
     record { value = value; exact = exactly blocking standing false value; ordered = with_fewer blocking standing false value }
 
-pub returns-then-blocks-now : goal.returns-then-blocks-now
-returns-then-blocks-now c =
+pub returns-then-blocks_now : goal.returns-then-blocks_now
+returns-then-blocks_now c =
     let blocking = blocks c.args.switch in
     let standing = c.args.standing.now in
-    let value : true ≡ blocked blocking standing = by_fault blocking standing _ c.if-blocks-now.ensures in
+    let value : true ≡ blocked blocking standing = by_fault blocking standing _ c.if-blocks_now.ensures in
     record { value = value; exact = exactly blocking standing true value; ordered = with_fewer blocking standing true value }

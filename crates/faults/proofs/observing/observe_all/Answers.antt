@@ -9,5 +9,5 @@ unfolding observations
 returns c =
     let l = c.args.limits.now in
     let p = c.args.p.now in
-    let value : c.observe-each.result ≡ observations l p = c.observe-each.ensures in
+    let value : c.observe_each.result ≡ observations l p = c.observe_each.ensures in
     record { value = value; ordered = subst (AllTighter l p) (sym value) (all_tighter l p) }

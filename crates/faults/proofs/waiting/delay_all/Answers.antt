@@ -8,5 +8,5 @@ pub returns : goal.returns
 unfolding fault_delays
 returns c =
     let l = c.args.sheet.now.limits in
-    let value : c.delay-each.result ≡ fault_delays l = c.delay-each.ensures in
+    let value : c.delay_each.result ≡ fault_delays l = c.delay_each.ensures in
     record { value = value; ordered = subst (NoDelayLonger l) (sym value) (no_delay_longer l) }

@@ -12,5 +12,5 @@ returns-then-image-ne116 c = grind (arith, nat_tests)
 pub returns : goal.returns
 returns c =
     let o = sized c.args.image.now (omega arith) in
-    let p = in_order c.check-contents.result c.check-sum.result c.check-ranges.result c.check-agreement.result (Ok c.read-limits-limits.result) in
+    let p = in_order c.check_contents.result c.check_sum.result c.check_ranges.result c.check_agreement.result (Ok c.read_limits-limits.result) in
     cc

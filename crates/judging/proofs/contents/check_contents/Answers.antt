@@ -17,5 +17,5 @@ returns-then-edition-ne1 c = grind (arith, nat_tests)
 
 pub returns : goal.returns
 returns c =
-    c.check-entries.ensures ∙ ap (λ m. refuse (first_broken (entry_rules m)) Entry (Ok tt)) (take_rest c.args.image.now 2)
+    c.check_entries.ensures ∙ ap (λ m. refuse (first_broken (entry_rules m)) Entry (Ok tt)) (take_rest c.args.image.now 2)
     ∙ sym (contents_at c.args.image.now c.if-edition-ne1.false c.if-count-ne5.false)

@@ -3,10 +3,10 @@ use Rattle.std.proofs.lemmas.Bool.Decides.{nat_tests}
 use Rattle.layout.specs.Decoded.{summed}
 use Rattle.judging.proofs.contents.check_sum.Goals as goal
 
-pub returns-then-body-sum-word-at : goal.returns-then-body-sum-word-at
+pub returns-then-body_sum-word_at : goal.returns-then-body_sum-word_at
 unfolding summed
-returns-then-body-sum-word-at c = grind (arith, nat_tests)
+returns-then-body_sum-word_at c = grind (arith, nat_tests)
 
-pub returns-else-body-sum-word-at : goal.returns-else-body-sum-word-at
+pub returns-else-body_sum-word_at : goal.returns-else-body_sum-word_at
 unfolding summed
-returns-else-body-sum-word-at c = grind (arith, nat_tests)
+returns-else-body_sum-word_at c = grind (arith, nat_tests)

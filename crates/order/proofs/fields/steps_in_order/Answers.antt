@@ -6,4 +6,4 @@ pub loop-k-init : goal.loop-k-init
 loop-k-init c = below_none (step_test c.args.b.now c.args.a.now)
 
 pub loop-k-preserved : goal.loop-k-preserved
-loop-k-preserved c = below_more (step_test c.args.b.now c.args.a.now) c.loop-k.k c.step-in-order-all.result c.loop-k.all c.step-in-order-all.ensures c.loop-k.invariant
+loop-k-preserved c = below_more (step_test c.args.b.now c.args.a.now) c.loop-k.k c.step_in_order-all.result c.loop-k.all c.step_in_order-all.ensures c.loop-k.invariant

@@ -13,8 +13,8 @@ returns c =
     let a = c.args.a.now.limits in
     let d : Decides _ (Generous b a) =
     Decides-at _ _
-    (λ i. ((c.levels-no-higher.ensures i && c.levels-no-lower.ensures i) && (c.precharge-in-order.ensures i && c.steps-in-order.ensures i)) && ((c.faults-in-order.ensures i && c.sets-no-lower.result) && (c.degrees-in-order.ensures i && c.zones-in-order.ensures i)))
-    (decides_generous b a c.sets-no-lower.result c.sets-no-lower.ensures.decides) in
+    (λ i. ((c.levels_no_higher.ensures i && c.levels_no_lower.ensures i) && (c.precharge_in_order.ensures i && c.steps_in_order.ensures i)) && ((c.faults_in_order.ensures i && c.sets_no_lower.result) && (c.degrees_in_order.ensures i && c.zones_in_order.ensures i)))
+    (decides_generous b a c.sets_no_lower.result c.sets_no_lower.ensures.decides) in
     record {
       decides = d;
       ordered = record { reflexive = reflexive a; transitive = λ g e h. transitive b a e g h };

@@ -5,5 +5,5 @@ use Rattle.prescribers.proofs.step.share.Goals as goal
 
 pub returns : goal.returns
 returns c =
-    let value : c.ratio-after.result ≡ step_share c.args.steps.now c.args.voltage = cc in
+    let value : c.ratio_after.result ≡ step_share c.args.steps.now c.args.voltage = cc in
     record { value = value; bound = omega (arith, value, share_small c.args.steps.now c.requires c.args.voltage) }

@@ -5,5 +5,5 @@ use Rattle.answers.proofs.answer.Answer.bytes.Goals as goal
 
 pub returns : goal.returns
 returns c =
-    let e = c.lay-out.ensures.value in
-    record { value = e; told = ap line_at e ∙ told c.args.self.now c.lay-out.ensures.region }
+    let e = c.lay_out.ensures.value in
+    record { value = e; told = ap line_at e ∙ told c.args.self.now c.lay_out.ensures.region }
