@@ -10,7 +10,7 @@ use Rattle.judging.proofs.accept.judge.Goals as goal
 pub returns : goal.returns
 returns c =
     let m = c.args.image.now in
-    let b : Bytes m = λ i. (c.type-inv.image i).fits in
+    let b : Bytes m = λ i. (c.type_inv.image i).fits in
     let r = c.check.result in
     let e : decoded m ≡ r = sym c.check.ensures in
     record {

@@ -10,7 +10,7 @@ loop-k-init c = below_none (λ k. zone_test c.args.b.now.limits c.args.a.now.lim
 pub loop-k-preserved : goal.loop-k-preserved
 loop-k-preserved c =
     let test : ℕ → Bool = λ k. zone_test c.args.b.now.limits c.args.a.now.limits (degree k) in
-    let held : to_z w16 (of_z w16 c.degree_at.result) ≡ c.degree_at.result = to_z-of_z w16 c.degree_at.result (record { sfits = c.degree_at.type-inv }) in
+    let held : to_z w16 (of_z w16 c.degree_at.result) ≡ c.degree_at.result = to_z-of_z w16 c.degree_at.result (record { sfits = c.degree_at.type_inv }) in
     let plain : to_z w16 c.loop-k.k ≡ pos c.loop-k.k = to_z_pos w16 c.loop-k.k (omega arith) in
     let e : c.zone_in_order-all.result ≡ test c.loop-k.k =
     c.zone_in_order-all.ensures ∙ ap (zone_test c.args.b.now.limits c.args.a.now.limits) (held ∙ c.degree_at.ensures ∙ ap (λ z. (z -ℤ pos 128) *ℤ pos 256) plain) in

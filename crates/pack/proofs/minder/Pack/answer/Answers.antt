@@ -20,8 +20,8 @@ returns g c =
       state = c.take-refusal.ensures.state;
     }
 
-pub invariant-of-self : goal.invariant-of-self
-invariant-of-self g c =
+pub invariant_of_self : goal.invariant_of_self
+invariant_of_self g c =
     let s = c.args.self.now.sheet in
     let x = c.args.self.now.state in
     (c.args.self.now.timed, (subst (λ y. y.limit ≤ 20000) (sym c.take-refusal.ensures.state) (limit_after s.limits x c.args.self.now.limited c.args.bytes.now), tt))

@@ -18,7 +18,7 @@ returns c =
     let reached : c.of-region.result.reached ≡ reached_by l.degrees.edges r.cell = c.of-region.ensures ∙ ap (reached_by l.degrees.edges) cell in
     let row : c.row.result ≡ row_for l r = c.row.ensures.value ∙ ap row_at reached in
     let ages : c.pass.new.self.table ≡ aged (row_for l r) r.elapsed x.ages.table = c.pass.ensures ∙ ap (λ k. aged k r.elapsed x.ages.table) row in
-    let region : to_z w8 (of_z w8 c.number.result) ≡ number_of (reached_by l.degrees.edges r.cell) = to_z-of_z w8 c.number.result (record { sfits = c.number.type-inv }) ∙ c.number.ensures ∙ ap number_of reached in
+    let region : to_z w8 (of_z w8 c.number.result) ≡ number_of (reached_by l.degrees.edges r.cell) = to_z-of_z w8 c.number.result (record { sfits = c.number.type_inv }) ∙ c.number.ensures ∙ ap number_of reached in
     let own : c.level.result ≡ level_of l r.cell = c.level.ensures ∙ ap (level_at l.rows) reached in
     let level : c.level-level.result ≡ level_in_force (transition l) (level_of l r.cell) (aged (row_for l r) r.elapsed x.ages.table) (levels_of l) = c.level-level.ensures.value ∙ (λ i. level_in_force (c.requires i).transition (own i) (ages i) (c.levels.ensures i)) in
     let prepared : ◌≡◌ {A = Prepared} (record { reading = r; region = to_z w8 (of_z w8 c.number.result); level = c.level-level.result; word = x.word }) (prepared_by l x r) = λ i. record { reading = r; region = region i; level = level i; word = x.word } in
