@@ -6,3 +6,4 @@ pub mod Encoded
 pub mod Accepted
 pub mod Laws
 pub mod Charging
+pub mod Ranged

@@ -4,3 +4,4 @@ pub mod Flats
 pub mod Order
 pub mod Usual
 pub mod Shares
+pub mod Lawful

@@ -5,6 +5,7 @@ use Rattle.sheet.specs.Charging.{precharge_below, precharge_most}
 use Rattle.reading.specs.declared.reading.Reading.{Reading}
 use Rattle.order.specs.Generous.{Generous}
 use Rattle.prescribers.specs.declared.precharge.Precharge.{Precharge}
+use Rattle.prescribers.specs.declared.prescriber.Prescriber.{Ghosts}
 use Rattle.prescribers.specs.declared.prescription.Prescription.{Prescription}
 use Rattle.prescribers.specs.declared.step.Step.{Step}
 use Rattle.prescribers.specs.declared.zone.Zone.{Zone}
@@ -16,7 +17,7 @@ abbrev pub usual_gives : Limits → Reading → Prescription
 usual_gives l r = precharged (precharge_below l) (precharge_most l) r (stepped l.steps r (zone_gives l r))
 
 -- what a stack of these three gives: the `gives` of the trait, at this type
-abbrev pub stack_gives : Precharge (Step Zone) → Reading → Prescription
+abbrev pub stack_gives : {z : Ghosts Zone} → Precharge (Step Zone z) → Reading → Prescription
 stack_gives u r = precharged u.until u.most r (stepped u.below.steps r (zone_gives u.below.below.sheet.limits r))
 
 -- what is given stays under what the usual stack of any sheet that is at least as generous gives

@@ -1,7 +1,8 @@
 // The limiter that spares a cell whose voltage is low.
-ghost use Rattle.std.specs.Prelude.{◌≡◌};
+ghost use Rattle.std.specs.Prelude.{◌≡◌, refl};
 ghost use Rattle.sheet.specs.Charging.{precharge_below, precharge_most};
 ghost use Rattle.prescribers.specs.Meanings.{precharged};
+ghost use Rattle.prescribers.specs.Lawful.{precharge_lowers, precharge_rises};
 ghost use Rattle.std.proofs.Common.{rules};
 
 use super::prescriber::{Limiter, Prescriber};
@@ -53,9 +54,9 @@ impl<P: Prescriber> Limiter for Precharge<P> {
 
     ghost under = { λ s. s.below };
 
-    ghost made = { Prim.search rules };
+    ghost made = { λ s r. refl };
 
-    ghost lowers = { Prim.search rules };
+    ghost lowers = { λ s. precharge_lowers s.until s.most };
 
-    ghost rising = { Prim.search rules };
+    ghost rising = { λ s. precharge_rises s.until s.most };
 }

@@ -1,7 +1,7 @@
 // The limiter that cuts the current in steps as the cell fills.
-ghost use Rattle.std.specs.Prelude.{◌≡◌, ◌*◌, ◌/◌, ◌≤◌, nat_le};
+ghost use Rattle.std.specs.Prelude.{◌≡◌, ◌*◌, ◌/◌, ◌≤◌, nat_le, refl};
 ghost use Rattle.prescribers.specs.Meanings.{InSixteenths, steps_reached, ratio_after, step_share, stepped};
-ghost use Rattle.std.proofs.Common.{le_trans, le_refl, arith, rules};
+ghost use Rattle.std.proofs.Common.{le_trans, le_refl};
 ghost use Rattle.prescribers.specs.Shares.{share_le, share_small, share_mono};
 
 use super::prescriber::{Limiter, Prescriber};
@@ -103,12 +103,12 @@ impl<P: Prescriber> Limiter for Step<P> {
 
     ghost under = { λ s. s.below };
 
-    ghost made = { first_of (Prim.search rules, Prim.grind (arith, Self.row.coded.inj)) };
+    ghost made = { λ s r. refl };
 
     ghost lowers = { λ s r p.
         record {
           current = share_le p.current (step_share s.steps r.voltage) (share_small s.steps s.ratios r.voltage);
-          voltage = omega arith;
+          voltage = le_refl p.voltage;
         } };
 
     ghost rising = { λ s r p q h.

@@ -4,6 +4,7 @@ pub use Rattle.layout.specs.Decoded
 pub use Rattle.layout.specs.Encoded
 pub use Rattle.layout.specs.Fields
 pub use Rattle.layout.specs.Laws
+pub use Rattle.layout.specs.Ranged
 pub use Rattle.layout.specs.Refusals
 pub use Rattle.layout.specs.Rules
 pub mod Verdicts

@@ -1,7 +1,6 @@
 // How a flat prescriber is made, and what it gives.
 ghost use Rattle.std.specs.Prelude.{◌≡◌};
 ghost use Rattle.prescribers.specs.Flats.{flat_gives, flat_of, pair_in};
-ghost use Rattle.std.proofs.Common.{rules, arith};
 
 use super::super::out_of_range::OutOfRange;
 use super::super::prescriber::Prescriber;
@@ -27,7 +26,7 @@ impl Flat {
 impl Prescriber for Flat {
     ghost gives = { λ f. flat_gives f.pair };
 
-    ghost ranged = { first_of (Prim.search rules, Prim.grind (arith, Self.row.coded.inj)) };
+    ghost ranged = { λ f r. f.ranged };
 
     fn prescribe(&self, _r: &Reading) -> Prescription {
         self.pair
