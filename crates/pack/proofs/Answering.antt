@@ -25,7 +25,6 @@ use Rattle.pack.specs.declared.state.State.{State}
 use Rattle.pack.specs.Steps.{Meaning, charges, shown_at, permitted_in, refusal_in, after, outcome, answered}
 use Rattle.pack.specs.History.{held_offs, calls_of, since_clear}
 use Rattle.pack.specs.Exact.{bit_at, Standing, Switched, Shows, Exact, left, ExactAfter}
-use Rattle.pack.proofs.Levels.{level_in_lem}
 use Rattle.pack.proofs.Tracking.{history_of, Tracks, tracks}
 
 -- a table of the faults, read at a fault's bit
@@ -111,7 +110,6 @@ exact_in l seven gives earlier bytes =
     record {
       refusal = shown_refusal gives y n y.last ∙ ap (λ o. refusal_in (permitted_in o (parsed bytes))) t.offs;
       shows = subst (λ o. Shows l gives (calls_of (bytes ∷ earlier)) (shown_at gives y n y.last) o) u.last (shows l (calls_of (bytes ∷ earlier)) y u gives n y.last);
-      levels = level_in_lem l;
     }
   where
     shown_refusal : (gives : Meaning) (y : State) (n : ℕ) (o : Option Prepared) → (shown_at gives y n o).refusal ≡ n

@@ -52,7 +52,6 @@ LevelsInForce l = (newest : Reading) (older : List Reading) → InForce (transit
 pub record Exact (l : Limits) (gives : Meaning) (earlier : List (List ℕ)) (bytes : List ℕ) (a : Answer) : Type 0 where
   pub refusal : a.refusal ≡ refusal_in (permitted_in (held_offs (calls_of earlier)) (parsed bytes))
   pub shows : Shows l gives (calls_of (bytes ∷ earlier)) a (last_of l (calls_of (bytes ∷ earlier)))
-  pub levels : LevelsInForce l
 
 -- the state of a new pack after records
 abbrev pub left : Limits → List (List ℕ) → State

@@ -1,6 +1,6 @@
 // The pack that answers calls.
 ghost use Rattle.std.specs.Prelude.{◌≡◌, ◌≤◌};
-ghost use Rattle.pack.specs.Exact.{ExactAfter};
+ghost use Rattle.pack.specs.Exact.{LevelsInForce, ExactAfter};
 ghost use Rattle.pack.specs.Steps.{fresh, shown, outcome, after, refusal_in, answered, waits_of};
 
 use super::state::State;
@@ -90,6 +90,7 @@ impl<P: Prescriber> Pack<P> {
     fn answer(&mut self, bytes: &[u8]) -> Answer
         ensures answer { result ≡ answered self.old.sheet.limits (P.Prescriber.gives self.old.prescriber) self.old.state bytes.now }
         ensures exact { ExactAfter self.old.sheet.limits (P.Prescriber.gives self.old.prescriber) self.old.state bytes.now result }
+        ensures levels { LevelsInForce self.old.sheet.limits }
         ensures sheet { self.new.sheet ≡ self.old.sheet }
         ensures prescriber { self.new.prescriber ≡ self.old.prescriber }
         ensures state { self.new.state ≡ after self.old.sheet.limits self.old.state bytes.now }
@@ -102,6 +103,7 @@ impl<P: Prescriber> Pack<P> {
     pub fn call(&mut self, bytes: &[u8]) -> Answer
         ensures answer { result ≡ answered self.old.sheet.limits (P.Prescriber.gives self.old.prescriber) self.old.state bytes.now }
         ensures exact { ExactAfter self.old.sheet.limits (P.Prescriber.gives self.old.prescriber) self.old.state bytes.now result }
+        ensures levels { LevelsInForce self.old.sheet.limits }
         ensures sheet { self.new.sheet ≡ self.old.sheet }
         ensures prescriber { self.new.prescriber ≡ self.old.prescriber }
         ensures state { self.new.state ≡ after self.old.sheet.limits self.old.state bytes.now }

@@ -2,6 +2,7 @@ use Rattle.std.proofs.Common.{◌≡◌, ◌≤◌, sym, refl, ◌∙◌, subst}
 use Rattle.sheet.proofs.Facts.{lengths}
 use Rattle.pack.specs.Steps.{Meaning, shown, answered}
 use Rattle.pack.proofs.Answering.{exact_after}
+use Rattle.pack.proofs.Levels.{level_in_lem}
 use Rattle.pack.proofs.Permitting.{limit_after}
 use Rattle.pack.proofs.minder.Pack.answer.Goals as goal
 
@@ -15,13 +16,14 @@ returns g c =
     record {
       answer = told;
       exact = exact_after s.limits (lengths s.limits s.sized).rows gives x bytes c.show.result told;
+      levels = level_in_lem s.limits;
       sheet = refl;
       prescriber = refl;
       state = c.take-refusal.ensures.state;
     }
 
-pub invariant_of_self : goal.invariant_of_self
-invariant_of_self g c =
+pub invariant_of-self-clause-limited : goal.invariant_of-self-clause-limited
+invariant_of-self-clause-limited g c =
     let s = c.args.self.now.sheet in
     let x = c.args.self.now.state in
-    (c.args.self.now.timed, (subst (λ y. y.limit ≤ 20000) (sym c.take-refusal.ensures.state) (limit_after s.limits x c.args.self.now.limited c.args.bytes.now), tt))
+    subst (λ y. y.limit ≤ 20000) (sym c.take-refusal.ensures.state) (limit_after s.limits x c.args.self.now.limited c.args.bytes.now)
