@@ -1,6 +1,6 @@
 #!/usr/bin/env python3
 """Writes the cases that `corpus` is run on, crates/corpus/stdin, and what it must print, crates/corpus/stdout; and the same for
-`packminder` and `tally`, which take one sheet and a stream of records, and for `compare`, which takes two sheets.
+`tally`, which takes one sheet and a stream of records.
 
     tests/make_corpus.py
 
@@ -16,7 +16,6 @@ from pathlib import Path
 sys.path.insert(0, str(Path(__file__).resolve().parent))
 import generator
 import whole_history as second
-from program_cases import compared
 from generator import CLEAR, WORD, fields_of, good_sheet, host_limit, image_of, mend, read, reading, sides, split, switch_offs
 
 ROOT = Path(__file__).resolve().parent.parent
@@ -344,21 +343,9 @@ def write_stream(rng):
     assert len(lines) == 1 + 3 + 1 + 700 + 1
     numbers = [[int(word) for word in line.split()] for line in lines[1:]]
     tally = [lines[0], f"{len(numbers)} {sum(sum(row) + 4 for row in numbers)}"]
-    for name, out in (("packminder", lines), ("tally", tally)):
-        (ROOT / "crates" / name / "stdin").write_bytes(data)
-        (ROOT / "crates" / name / "stdout").write_bytes(text(out))
-    write_pair(data[116:])
+    (ROOT / "crates" / "tally" / "stdin").write_bytes(data)
+    (ROOT / "crates" / "tally" / "stdout").write_bytes(text(tally))
     print(f"{len(numbers)} records in one stream")
-
-
-def write_pair(stream):
-    """Two sheets for `compare`, the tight one with a shorter watchdog; the host's word and two readings, and then the stream."""
-    tight = bytearray(generator.SAMPLE[:114])
-    tight[111] = 0x02
-    tight = generator.sealed(tight)
-    records = WORD + reading(elapsed=1000) + reading(elapsed=22500) + stream
-    (ROOT / "crates" / "compare" / "stdin").write_bytes(tight + generator.SAMPLE + records)
-    (ROOT / "crates" / "compare" / "stdout").write_bytes(text(compared(tight, generator.SAMPLE, records)))
 
 
 def main():

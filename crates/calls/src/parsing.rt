@@ -47,7 +47,6 @@ pub fn parse(bytes: &[u8]) -> Result<Call, Rejection>
 #[cfg(test)]
 mod tests {
     use super::*;
-    use std::test::Fail;
 
     // The number of the refusal of a record, or 0.
     fn refusal(bytes: &[u8]) -> u8 {
@@ -86,7 +85,7 @@ mod tests {
 
     // A reading, an unknown letter, and both switch-offs.
     #[test]
-    fn three_records(rt: HostRuntime) -> Result<(), Fail> {
+    fn three_records(rt: HostRuntime) {
         match parse(&[
             0x52, 0x01, 0x5F, 0x01, 0x10, 0x0E, 0xF4, 0x01, 0x00, 0x19, 0x00, 0x1E,
         ]) {
@@ -105,12 +104,8 @@ mod tests {
             Ok(Call::Switch(offs)) => {
                 assert_eq!(rt; offs.charge, true);
                 assert_eq!(rt; offs.discharge, true);
-                Ok(())
             }
-            _ => {
-                assert!(rt; false);
-                Ok(())
-            },
+            _ => assert!(rt; false),
         }
     }
 }

@@ -7,7 +7,7 @@ use Rattle.faults.specs.Observed.{observations, fault_delays}
 use Rattle.calls.specs.Parsed.{parsed}
 use Rattle.pack.specs.Steps.{reads}
 use Rattle.cases.specs.Sample.{sample_image}
-use Rattle.cases.specs.Cases.{WorkedCases}
+use Rattle.cases.specs.Cases.{WorkedCases, MoreWorkedCases}
 use Rattle.cases.proofs.Order.{generous, not_back}
 
 pub all_hold : WorkedCases sample_image
@@ -22,6 +22,11 @@ all_hold = record {
   transition = (refl, refl);
   watchdog = (refl, refl);
   generous = (generous, not_back);
+}
+
+pub more_hold : MoreWorkedCases
+unfolding each_row range_rules conflict_rules limits_of contents summed ranges conflicts decoded parsed observations fault_delays reads
+more_hold = record {
   undervoltage = (refl, refl);
   cleared = (refl, refl, refl);
   rows = (refl, refl, refl);

@@ -57,6 +57,9 @@ pub record WorkedCases (image : List ℕ) : Type 0 where
   pub watchdog : (shows (answer_to (at25 45000 3700) []) chg_wdt ≡ true) × (shows (answer_to (at25 44999 3700) []) chg_wdt ≡ false)
   -- 8. the sample is at least as generous as itself with the shortest watchdog, and the other way round that is not so
   pub generous : Generous sample short_watchdog × (Generous short_watchdog sample → ⊥)
+
+-- three more on the same sheet
+pub record MoreWorkedCases : Type 0 where
   -- 9. a reading of 700 ms at 2799 mV raises UVP; a second one leaves it at 2999 mV, and releases it at 3000 mV
   pub undervoltage : (shows (answer_to (at25 1 2999) (at25 700 2799 ∷ [])) uvp ≡ true) × (shows (answer_to (at25 1 3000) (at25 700 2799 ∷ [])) uvp ≡ false)
   -- 10. a clear is refused, with 10, while charge alone or discharge alone is held off, and taken while both are

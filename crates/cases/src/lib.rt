@@ -3,7 +3,7 @@
 
 ghost use Rattle.std.specs.Prelude.{◌≡◌};
 ghost use Rattle.cases.specs.Sample.{sample_image};
-ghost use Rattle.cases.specs.Cases.{WorkedCases};
+ghost use Rattle.cases.specs.Cases.{WorkedCases, MoreWorkedCases};
 
 // The contents; the levels; the degrees; the rows; the steps; the delays, the enable word and the sum.
 const SAMPLE: &[u8; 116] =
@@ -24,6 +24,7 @@ fn sample() -> [u8; 116]
 pub fn sample_image() -> [u8; 116]
     ensures image { result ≡ sample_image }
     ensures cases { WorkedCases result }
+    ensures more { MoreWorkedCases }
 {
     sample()
 }

@@ -1,10 +1,11 @@
 use Rattle.std.proofs.Common.{sym, subst}
 use Rattle.cases.specs.Cases.{WorkedCases}
-use Rattle.cases.proofs.Cases.{all_hold}
+use Rattle.cases.proofs.Cases.{all_hold, more_hold}
 use Rattle.cases.proofs.sample_image.Goals as goal
 
 pub returns : goal.returns
 returns c = record {
   image = c.sample.ensures;
   cases = subst WorkedCases (sym c.sample.ensures) all_hold;
+  more = more_hold;
 }
