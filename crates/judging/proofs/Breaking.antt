@@ -1,15 +1,14 @@
 -- The first failing check of two lists, one after the other.
-use Rattle.std.proofs.Common.{◌≡◌, ℕ, ◌+◌, ◌<◌, ◌≤◌, Bool, true, false, cond, List, [], ◌∷◌, ◌++◌, length, get_or, drop, Some, None, Ok, Option, Result, refl, ap, ◌∙◌}
+use Rattle.std.proofs.Common.{◌≡◌, ℕ, ◌+◌, ◌<◌, ◌≤◌, Bool, true, false, cond, List, [], ◌∷◌, ◌++◌, length, get_or, drop, Some, None, Ok, Option, refl, ap, ◌∙◌}
 use Rattle.std.proofs.lemmas.List.{at_drop_more, at_drop_all}
 use Rattle.std.specs.Option.{option_or}
 use Rattle.layout.specs.declared.rule.Rule.{Rule}
 use Rattle.layout.specs.declared.limits.Row.{Row}
 use Rattle.layout.specs.declared.limits.Limits.{Limits}
-use Rattle.layout.specs.declared.refusal.Refusal.{Refusal}
 use Rattle.layout.specs.declared.refusal.Refusal.TheVariants.{Range, Conflict}
 use Rattle.layout.specs.Rules.{first_broken, row_ranges, each_row, row_conflicts, level_conflicts, edge_conflicts, step_conflicts, conflict_rules, range_rules, level_ranges, degree_ranges, step_ranges, timing_ranges}
 use Rattle.layout.specs.Charging.{no_row}
-use Rattle.layout.specs.Decoded.{refuse, next, ranges, conflicts}
+use Rattle.layout.specs.Decoded.{refuse, ranges, conflicts}
 
 first_cond : (b : Bool) (x y z : Option ℕ) (p : ℕ) → x ≡ option_or y z → cond b x (Some p) ≡ option_or (cond b y (Some p)) z
 first_cond true x y z p e = e

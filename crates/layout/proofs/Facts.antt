@@ -1,13 +1,11 @@
 -- What the invariant of a sheet says of its fields.
-use Rattle.std.proofs.Common.{◌≡◌, ℕ, zero, suc, ◌+◌, ◌≤◌, true, eqb, leb, List, [], ◌∷◌, ◌++◌, length, get_or, sym, refl, subst, inl, inr, le_trans, le_refl, arith}
-use Rattle.std.proofs.lemmas.Bool.{and_parts, and_from, leb-true, eqb-true, cases_eq}
+use Rattle.std.proofs.Common.{◌≡◌, ℕ, zero, suc, ◌≤◌, true, eqb, List, ◌++◌, length, get_or, sym, subst, inl, inr, le_trans, le_refl, arith}
+use Rattle.std.proofs.lemmas.Bool.{and_parts, eqb-true, cases_eq}
 use Rattle.std.proofs.lemmas.Bool.Decides.{nat_tests}
 use Rattle.std.proofs.lemmas.List.{get_or_past}
-use Rattle.layout.specs.declared.limits.Row.{Row}
 use Rattle.layout.specs.declared.limits.Limits.{Limits}
 use Rattle.layout.specs.declared.rule.Rule.{Rule}
-use Rattle.layout.specs.Charging.{no_row}
-use Rattle.layout.specs.Rules.{all_kept, level_ranges, degree_ranges, row_ranges, each_row, step_ranges, timing_ranges, range_rules, level_conflicts, edge_conflicts, row_conflicts, step_conflicts, conflict_rules}
+use Rattle.layout.specs.Rules.{all_kept, row_ranges, each_row, step_ranges, timing_ranges, range_rules, level_conflicts, edge_conflicts, row_conflicts, step_conflicts, conflict_rules}
 use Rattle.layout.specs.Accepted.{sound, fits, lengths_fit, degrees_fit}
 use Rattle.layout.specs.Ranged.{all_left, all_right, row_rules}
 use Rattle.layout.proofs.Listed.{Sized}

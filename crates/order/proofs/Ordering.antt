@@ -1,5 +1,5 @@
 -- At least as generous is reflexive and transitive.
-use Rattle.std.proofs.Common.{◌≤◌, ℤ, ◌≤ℤ◌, le_trans, le_refl, arith}
+use Rattle.std.proofs.Common.{ℤ, ◌≤ℤ◌, le_trans, le_refl, arith}
 use Rattle.std.proofs.lemmas.Int.{ints}
 use Rattle.sheet.specs.declared.limits.Limits.{Limits}
 use Rattle.order.specs.Generous.{Generous}

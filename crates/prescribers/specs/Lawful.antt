@@ -1,5 +1,5 @@
 -- What a prescriber owes by the laws of its trait: that a zone's pair is in range, and that precharging only lowers.
-use Rattle.std.specs.Prelude.{◌≡◌, ℕ, ◌≤◌, true, false, min, cond, slice_index_or, nat_lt}
+use Rattle.std.specs.Prelude.{ℕ, ◌≤◌, slice_index_or}
 use Rattle.std.proofs.Common.{le_refl, arith}
 use Rattle.std.proofs.lemmas.Bool.{cond_both}
 use Rattle.std.proofs.lemmas.Bool.Decides.{nat_tests}

@@ -1,5 +1,5 @@
 -- Shares of a current in sixteenths, rounded down.
-use Rattle.std.specs.Prelude.{◌≡◌, ℕ, zero, suc, ◌-◌, ◌*◌, ◌/◌, ◌≤◌, List, slice_index}
+use Rattle.std.specs.Prelude.{◌≡◌, ℕ, zero, suc, ◌*◌, ◌/◌, ◌≤◌, List, slice_index}
 use Rattle.std.proofs.Common.{ap, le_refl, mul-le-mul, mul-le-mul_left, arith}
 use Rattle.std.proofs.lemmas.Bool.{ne_eqb}
 use Rattle.sheet.specs.declared.limits.Steps.{Steps}

@@ -1,4 +1,4 @@
-use Rattle.std.proofs.Common.{◌≡◌, ℕ, sym, ◌∙◌, arith}
+use Rattle.std.proofs.Common.{◌≡◌, sym, ◌∙◌, arith}
 use Rattle.timing.specs.Timing.{all_stepped}
 use Rattle.timing.proofs.Order.{ordered-after}
 use Rattle.timing.proofs.Table.{rest_moved, rest_none, exact_after}
