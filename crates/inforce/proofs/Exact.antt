@@ -1,6 +1,6 @@
 -- The level that the ages put in force is the greatest that counts.
 use Rattle.std.proofs.Common.{◌≡◌, ℕ, zero, suc, ◌+◌, ◌^◌, ◌<◌, ◌≤◌, min, Bool, true, false, ltb, ◌⊎◌, List, [], ◌∷◌, map, length, get_or, take, sym, refl, ap, ◌∙◌, inl, inr, arith, length-set, get_or-set_other, get_or-set_same}
-use Rattle.std.specs.List.{AllByRecursion as All}
+use Rattle.std.specs.List.{AllByRecursion}
 use Rattle.std.proofs.ByRecursion.{All-get_or}
 use Rattle.std.proofs.lemmas.List.{length-map, get_or-map, get_or-replicate}
 use Rattle.std.proofs.lemmas.Bool.{cases_eq, cases_lt, ltb-true, lt-ltb}
@@ -8,7 +8,7 @@ use Rattle.inforce.specs.Ages.{Mark, older_by, ages_of, raised_by, level_in_forc
 use Rattle.inforce.specs.Level.{total, Counts, times_of, levels_of_marks, LevelExact}
 
 abbrev Known : List Mark → Type 0
-Known h = All (λ m. m.row < 7) h
+Known h = AllByRecursion (λ m. m.row < 7) h
 
 -- past the end of a history
 abbrev none : Mark

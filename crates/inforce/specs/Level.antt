@@ -1,6 +1,6 @@
 -- The level in force, in terms of the readings alone. A history has its newest reading first.
 use Rattle.std.specs.Prelude.{◌≡◌, ℕ, ◌+◌, ◌<◌, ◌≤◌, ◌⊎◌, List, [], ◌∷◌, map, length, take, slice_index}
-use Rattle.std.specs.List.{AllZip, AllByRecursion as All}
+use Rattle.std.specs.List.{AllZip, AllByRecursion}
 use Rattle.inforce.specs.Ages.{Mark, ages_of}
 
 -- the sum of elapsed times
@@ -31,7 +31,7 @@ levels_of_marks levels history = map (λ m. slice_index levels m.row) history
 -- for every history whose ages these are, and whose newest reading has the level own, v is the level in force
 abbrev pub LevelExact : ℕ → ℕ → List ℕ → List ℕ → ℕ → Type 0
 LevelExact delay own ages levels v =
-    (newest : Mark) (older : List Mark) → All (λ m. m.row < 7) (newest ∷ older) → ages ≡ ages_of (newest ∷ older) → own ≡ slice_index levels newest.row
+    (newest : Mark) (older : List Mark) → AllByRecursion (λ m. m.row < 7) (newest ∷ older) → ages ≡ ages_of (newest ∷ older) → own ≡ slice_index levels newest.row
     → InForce delay (times_of (newest ∷ older)) (levels_of_marks levels (newest ∷ older)) v
 
 -- a longer delay and no lower levels, at the same times, never put a lower level in force

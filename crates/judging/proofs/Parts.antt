@@ -1,6 +1,6 @@
 -- What the acceptance of a step, and of steps one after another, says.
 use Rattle.std.proofs.Common.{◌≡◌, ℕ, Bool, true, false, cond, ◌&&◌, eqb, List, [], ◌∷◌, Some, None, Ok, Err, Option, Result, refl, arith}
-use Rattle.std.specs.List.{AllByRecursion as All}
+use Rattle.std.specs.List.{AllByRecursion}
 use Rattle.std.proofs.lemmas.Bool.{and_parts, eqb-true}
 use Rattle.layout.specs.declared.rule.Rule.{Rule}
 use Rattle.layout.specs.declared.refusal.Refusal.{Refusal}
@@ -27,7 +27,7 @@ cond-none : (b : Bool) (o : Option ℕ) (p : ℕ) → cond b o (Some p) ≡ None
 cond-none true o p h = (refl, h)
 cond-none false o p h = let z : ◌≡◌ {A = ℕ} 0 1 = cc in absurd (omega arith)
 
-pub all_hold : (cs : List Rule) → first_broken cs ≡ None → All (λ c. c.kept ≡ true) cs
+pub all_hold : (cs : List Rule) → first_broken cs ≡ None → AllByRecursion (λ c. c.kept ≡ true) cs
 all_hold [] h = tt
 all_hold (c ∷ cs) h = let p = cond-none c.kept (first_broken cs) c.place h in (p.0, all_hold cs p.1)
 

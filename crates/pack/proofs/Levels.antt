@@ -1,6 +1,6 @@
 -- The ages of the rows put in force the level that the readings say.
 use Rattle.std.proofs.Common.{◌≡◌, ℕ, zero, suc, ◌+◌, ◌<◌, ◌≤◌, max, Bool, true, false, cond, ltb, ◌⊎◌, List, [], ◌∷◌, map, length, get_or, take, sym, refl, ◌∙◌, inl, inr, le_refl, arith}
-use Rattle.std.specs.List.{AllZip, AllByRecursion as All}
+use Rattle.std.specs.List.{AllZip, AllByRecursion}
 use Rattle.std.proofs.lemmas.List.{length-map}
 use Rattle.std.proofs.lemmas.Bool.{lt-ltb, ltb-true, cases_lt}
 use Rattle.delays.specs.declared.Timer.TheVariants.{Transition}
@@ -100,7 +100,7 @@ module _ (l : Limits) where
   same_each [] = tt
   same_each (x ∷ xs) = (le_refl x, same_each xs)
 
-  rows_known : (rs : List Reading) → All (λ m. m.row < 7) (marks_of l rs)
+  rows_known : (rs : List Reading) → AllByRecursion (λ m. m.row < 7) (marks_of l rs)
   rows_known [] = tt
   rows_known (r ∷ rs) = (omega arith, rows_known rs)
 

@@ -1,6 +1,6 @@
 -- A tighter pack never does more: from what both answers say of the same accepted calls.
 use Rattle.std.proofs.Common.{◌≡◌, ℕ, ◌+◌, ◌<◌, ◌≤◌, min, Bool, true, false, cond, eqb, ltb, List, [], ◌∷◌, length, get_or, Some, None, Ok, Err, Decides, Option, Result, sym, refl, ap, ◌∙◌, subst, inl, inr, arith}
-use Rattle.std.specs.List.{AllZip, AllByRecursion as All}
+use Rattle.std.specs.List.{AllZip, AllByRecursion}
 use Rattle.std.proofs.lemmas.Bool.{false≢true, cases_lt, lt-ltb, ltb-true}
 use Rattle.std.proofs.lemmas.Bool.Decides.{Decides-eqb}
 use Rattle.delays.specs.declared.Timer.TheVariants.{Transition}
@@ -37,15 +37,15 @@ use Rattle.pack.proofs.Permitting.{accepted_ranged}
 use Rattle.tighter.specs.Order.{NeverMore, answer_after, TighterCall}
 
 -- every accepted call is in range
-noted_ranged : (cs : List Call) (r : Result Call Rejection) → RangedResult r → All Ranged cs → All Ranged (noted cs r)
+noted_ranged : (cs : List Call) (r : Result Call Rejection) → RangedResult r → AllByRecursion Ranged cs → AllByRecursion Ranged (noted cs r)
 noted_ranged cs (Ok c) h k = (h, k)
 noted_ranged cs (Err e) h k = k
 
-calls_ranged : (records : List (List ℕ)) → All Ranged (calls_of records)
+calls_ranged : (records : List (List ℕ)) → AllByRecursion Ranged (calls_of records)
 calls_ranged [] = tt
 calls_ranged (bytes ∷ earlier) = noted_ranged (calls_of earlier) _ (accepted_ranged (held_offs (calls_of earlier)) bytes) (calls_ranged earlier)
 
-readings_ranged : (cs : List Call) → All Ranged cs → All InReadingRange (readings cs)
+readings_ranged : (cs : List Call) → AllByRecursion Ranged cs → AllByRecursion InReadingRange (readings cs)
 readings_ranged [] h = tt
 readings_ranged (Read r ∷ cs) h = (h.0, readings_ranged cs h.1)
 readings_ranged (Word ∷ cs) h = readings_ranged cs h.1
@@ -68,21 +68,21 @@ module _ (a b : Limits) (g : Generous b a) where
   longer = no_shorter Transition a.timing.delaycfg b.timing.delaycfg (g.settings Transition)
 
   -- a level of the tight sheet stays in force no longer, and is no higher
-  greatest-ordered : (since : ℕ) (rs : List Reading) → All InReadingRange rs → greatest a (transition a) since rs ≤ greatest b (transition b) since rs
+  greatest-ordered : (since : ℕ) (rs : List Reading) → AllByRecursion InReadingRange rs → greatest a (transition a) since rs ≤ greatest b (transition b) since rs
   greatest-ordered since [] h = omega arith
   greatest-ordered since (r ∷ rs) h =
       let here = counted (ltb since (transition a)) (ltb since (transition b)) (level_of a r.cell) (level_of b r.cell) (λ e. lt-ltb since (transition b) (omega (arith, longer, ltb-true since (transition a) e))) (everywhere b a g r.cell h.0.cell).level in
       let more = greatest-ordered (since + r.elapsed) rs h.1 in
       omega arith
 
-  level_ordered : (r : Reading) (older : List Reading) → All InReadingRange (r ∷ older) → level_in a (r ∷ older) ≤ level_in b (r ∷ older)
+  level_ordered : (r : Reading) (older : List Reading) → AllByRecursion InReadingRange (r ∷ older) → level_in a (r ∷ older) ≤ level_in b (r ∷ older)
   level_ordered r older h = omega (arith, (everywhere b a g r.cell h.0.cell).level, greatest-ordered r.elapsed older h.1)
 
-  same_reading : (cs : List Call) → All Ranged cs → (r : Reading) → InReadingRange r → SameReading (prepared_after a cs r) (prepared_after b cs r)
+  same_reading : (cs : List Call) → AllByRecursion Ranged cs → (r : Reading) → InReadingRange r → SameReading (prepared_after a cs r) (prepared_after b cs r)
   same_reading cs h r k = record { reading = refl; word = refl; level = level_ordered r (readings cs) (k, readings_ranged cs h) }
 
   -- each rule sees the readings since the last clear at least as tightly
-  seen_ordered : (f : Fault) (cs : List Call) → All Ranged cs → AllZip Tighter (seen_by a cs f) (seen_by b cs f)
+  seen_ordered : (f : Fault) (cs : List Call) → AllByRecursion Ranged cs → AllZip Tighter (seen_by a cs f) (seen_by b cs f)
   seen_ordered f [] h = tt
   seen_ordered f (Read r ∷ cs) h = (tighter f a b (prepared_after a cs r) (prepared_after b cs r) g (same_reading cs h.1 r h.0), seen_ordered f cs h.1)
   seen_ordered f (Word ∷ cs) h = seen_ordered f cs h.1
@@ -90,10 +90,10 @@ module _ (a b : Limits) (g : Generous b a) where
   seen_ordered f (Switch o ∷ cs) h = seen_ordered f cs h.1
   seen_ordered f (Clear ∷ cs) h = tt
 
-  standing_ordered : (f : Fault) (cs : List Call) → All Ranged cs → Standing b cs f → Standing a cs f
+  standing_ordered : (f : Fault) (cs : List Call) → AllByRecursion Ranged cs → Standing b cs f → Standing a cs f
   standing_ordered f cs h s = stands_ordered (fault_delay a f) (seen_by a cs f) (fault_delay b f) (seen_by b cs f) (fault_no_longer f a b g) (seen_ordered f cs h) s
 
-  switched_ordered : (cs : List Call) → All Ranged cs → (blocking : Fault → Bool) (held : Bool) → Switched a cs blocking held → Switched b cs blocking held
+  switched_ordered : (cs : List Call) → AllByRecursion Ranged cs → (blocking : Fault → Bool) (held : Bool) → Switched a cs blocking held → Switched b cs blocking held
   switched_ordered cs h blocking held s = record { unblocked = λ f k t. s.unblocked f k (standing_ordered f cs h t); unheld = s.unheld }
 
   -- both packs have the same newest reading
@@ -103,7 +103,7 @@ module _ (a b : Limits) (g : Generous b a) where
   Both (Some p) None = ⊥
   Both (Some p) (Some q) = (q.reading ≡ p.reading) × InReadingRange p.reading
 
-  both_last : (cs : List Call) → All Ranged cs → Both (last_of a cs) (last_of b cs)
+  both_last : (cs : List Call) → AllByRecursion Ranged cs → Both (last_of a cs) (last_of b cs)
   unfolding Both
   both_last [] h = tt
   both_last (Read r ∷ cs) h = (refl, h.0)
@@ -112,7 +112,7 @@ module _ (a b : Limits) (g : Generous b a) where
   both_last (Switch o ∷ cs) h = both_last cs h.1
   both_last (Clear ∷ cs) h = both_last cs h.1
 
-  module _ (f k : Meaning) (under : Under f k) (cs : List Call) (known : All Ranged cs) (t l : Answer) (alike : t.refusal ≡ l.refusal) where
+  module _ (f k : Meaning) (under : Under f k) (cs : List Call) (known : AllByRecursion Ranged cs) (t l : Answer) (alike : t.refusal ≡ l.refusal) where
     on : (x y : Bool) (blocking : Fault → Bool) (held : Bool) → Decides x (Switched a cs blocking held) → Decides y (Switched b cs blocking held) → x ≡ true → y ≡ true
     on x y blocking held d e h = e.1 (switched_ordered cs known blocking held (d.0 h))
 

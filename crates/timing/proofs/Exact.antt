@@ -1,6 +1,6 @@
 -- The watch of a fault stands exactly when the fault's history says so.
 use Rattle.std.proofs.Common.{◌≡◌, ℕ, ◌+◌, ◌^◌, ◌<◌, ◌≤◌, min, Bool, true, false, cond, not, ◌&&◌, leb, List, [], ◌∷◌, ◌++◌, length, Decides, sym, refl, ap, ◌∙◌, subst, inl, inr, arith}
-use Rattle.std.specs.List.{AllByRecursion as All}
+use Rattle.std.specs.List.{AllByRecursion}
 use Rattle.std.proofs.lemmas.Bool.{and_parts, and_from, or_cases, or_left, or_right, false≢true, leb-true, le-leb, not_from_false, not-true}
 use Rattle.timing.specs.declared.Observation.{Observation}
 use Rattle.timing.specs.Timing.{watched}
@@ -24,10 +24,10 @@ front_past (o ∷ os) =
       | false ↦ refl
     ]
 
-front-trips : (os : List Observation) → All (λ o. o.trips ≡ true) (front os)
+front-trips : (os : List Observation) → AllByRecursion (λ o. o.trips ≡ true) (front os)
 front-trips [] = tt
 front-trips (o ∷ os) =
-    let P : List Observation → Type 0 = All (λ o. o.trips ≡ true) in
+    let P : List Observation → Type 0 = AllByRecursion (λ o. o.trips ≡ true) in
     let at : (b : Bool) → o.trips ≡ b → P (cond b (o ∷ front os) []) = λ b e. elim b as (λ b. o.trips ≡ b → P (cond b (o ∷ front os) [])) [
       | true ↦ λ e. (e, front-trips os)
       | false ↦ λ e. tt
@@ -35,7 +35,7 @@ front-trips (o ∷ os) =
     at o.trips refl
 
 -- a stretch that trips goes on into the front of what lies before it
-front_joins : (stretch before : List Observation) → All (λ o. o.trips ≡ true) stretch → front (stretch ++ before) ≡ stretch ++ front before
+front_joins : (stretch before : List Observation) → AllByRecursion (λ o. o.trips ≡ true) stretch → front (stretch ++ before) ≡ stretch ++ front before
 front_joins [] before h = refl
 front_joins (o ∷ os) before h = ap (λ b. cond b (o ∷ front (os ++ before)) []) h.0 ∙ ap (λ l. o ∷ l) (front_joins os before h.1)
 
@@ -82,7 +82,7 @@ to d (o ∷ os) e =
           }
     ]
 
-from : (d : ℕ) → d < 2 ^ 32 → (later stretch before : List Observation) → 1 ≤ length stretch → All (λ o. o.trips ≡ true) stretch → d ≤ counted stretch → All (λ o. o.releases ≡ false) later → (watched d (later ++ (stretch ++ before))).standing ≡ true
+from : (d : ℕ) → d < 2 ^ 32 → (later stretch before : List Observation) → 1 ≤ length stretch → AllByRecursion (λ o. o.trips ≡ true) stretch → d ≤ counted stretch → AllByRecursion (λ o. o.releases ≡ false) later → (watched d (later ++ (stretch ++ before))).standing ≡ true
 from d h [] [] before some tripped long un = absurd (omega arith)
 from d h [] (o ∷ os) before some tripped long un =
     let held = (watched d (o ∷ (os ++ before))).held in

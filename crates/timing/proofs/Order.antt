@@ -1,6 +1,6 @@
 -- The tighter of two faults never stands later.
 use Rattle.std.proofs.Common.{◌≡◌, ℕ, ◌+◌, ◌≤◌, min, Bool, true, false, cond, not, leb, List, [], ◌∷◌, ◌++◌, sym, refl, ap, ◌∙◌, subst, arith}
-use Rattle.std.specs.List.{AllZip, AllByRecursion as All}
+use Rattle.std.specs.List.{AllZip, AllByRecursion}
 use Rattle.std.proofs.lemmas.List.Elements.{length_all_zip}
 use Rattle.std.proofs.lemmas.Bool.{false≢true}
 use Rattle.timing.specs.declared.Watch.{Watch}
@@ -56,7 +56,7 @@ split (t ∷ ts) (f ∷ fs) back h =
     let s = split ts fs back h.1 in
     record { early = t ∷ s.early; late = s.late; parts = ap (λ l. t ∷ l) s.parts; fronts = (h.0, s.fronts); backs = s.backs }
 
-trips_kept : (tight loose : List Observation) → AllZip Tighter tight loose → All (λ o. o.trips ≡ true) loose → All (λ o. o.trips ≡ true) tight
+trips_kept : (tight loose : List Observation) → AllZip Tighter tight loose → AllByRecursion (λ o. o.trips ≡ true) loose → AllByRecursion (λ o. o.trips ≡ true) tight
 trips_kept [] [] h a = tt
 trips_kept [] (l ∷ ls) h a = absurd h
 trips_kept (t ∷ ts) [] h a = absurd h
@@ -66,7 +66,7 @@ unreleased : (x y : Bool) → Implies x y → y ≡ false → x ≡ false
 unreleased true y h e = absurd (false≢true (sym e ∙ h refl))
 unreleased false y h e = refl
 
-unreleased_kept : (tight loose : List Observation) → AllZip Tighter tight loose → All (λ o. o.releases ≡ false) loose → All (λ o. o.releases ≡ false) tight
+unreleased_kept : (tight loose : List Observation) → AllZip Tighter tight loose → AllByRecursion (λ o. o.releases ≡ false) loose → AllByRecursion (λ o. o.releases ≡ false) tight
 unreleased_kept [] [] h a = tt
 unreleased_kept [] (l ∷ ls) h a = absurd h
 unreleased_kept (t ∷ ts) [] h a = absurd h

@@ -1,6 +1,6 @@
 -- When a fault stands, in terms of its readings alone. A history has its newest reading first.
 use Rattle.std.specs.Prelude.{◌≡◌, ℕ, ◌+◌, ◌<◌, ◌≤◌, true, false, List, [], ◌∷◌, ◌++◌, length, Decides, slice_index, slice_index_or}
-use Rattle.std.specs.List.{AllByRecursion as All}
+use Rattle.std.specs.List.{AllByRecursion}
 use Rattle.timing.specs.declared.Watch.{Watch}
 use Rattle.timing.specs.declared.Observation.{Observation}
 use Rattle.timing.specs.Timing.{idle, all_standing, watched}
@@ -18,9 +18,9 @@ pub record Stands (delay : ℕ) (history : List Observation) : Type 0 where
   pub before : List Observation
   pub parts : history ≡ later ++ (stretch ++ before)
   pub some : 1 ≤ length stretch
-  pub tripped : All (λ o. o.trips ≡ true) stretch
+  pub tripped : AllByRecursion (λ o. o.trips ≡ true) stretch
   pub long : delay ≤ counted stretch
-  pub unreleased : All (λ o. o.releases ≡ false) later
+  pub unreleased : AllByRecursion (λ o. o.releases ≡ false) later
 
 -- an observation that tells nothing; it stands for what lies past the end of a list
 abbrev pub quiet : Observation
