@@ -7,7 +7,7 @@ import struct
 from pathlib import Path
 from types import SimpleNamespace
 
-import whole_history as second
+import second_pack as second
 
 SAMPLE = (Path(__file__).resolve().parent.parent / "samples" / "sample.sheet").read_bytes()
 CONTENTS = bytes([1, 5, 1, 22, 22, 0, 2, 12, 44, 0, 3, 42, 56, 0, 4, 12, 98, 0, 5, 4, 110, 0])
@@ -15,7 +15,7 @@ VOLTAGES = {"trip": 22, "release": 24, "shutdown": 26, "overdrop": 28, "permover
 CURRENTS = {"chargeover": 32, "dischargeover": 34, "fullcurrent": 40}
 
 
-# --- Sheets. One is a namespace with the fields of `whole_history.Sheet`, whose rows are lists so that they can be changed. ---
+# --- Sheets. One is a namespace with the fields of `second_pack.Sheet`, whose rows are lists so that they can be changed. ---
 
 def fields_of(image):
     fields = SimpleNamespace(**vars(second.Sheet(image)))

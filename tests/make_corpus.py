@@ -4,7 +4,7 @@
 
     tests/make_corpus.py
 
-What is expected comes from whole_history.py, and never from a program of this repository. The cases are the same in every run. Their
+What is expected comes from second_pack.py, and never from a program of this repository. The cases are the same in every run. Their
 plan is in `all_cases`; that it is met is checked as they are made, and counted at the end.
 """
 import random
@@ -15,7 +15,7 @@ from pathlib import Path
 
 sys.path.insert(0, str(Path(__file__).resolve().parent))
 import generator
-import whole_history as second
+import second_pack as second
 from generator import CLEAR, WORD, fields_of, good_sheet, host_limit, image_of, mend, read, reading, sides, split, switch_offs
 
 ROOT = Path(__file__).resolve().parent.parent
@@ -116,7 +116,7 @@ def with_setting(word, timer, setting):
 
 
 class Story:
-    """Records, and after which of them a fault is meant to stand or not. That it is so is asked of whole_history.py at the end."""
+    """Records, and after which of them a fault is meant to stand or not. That it is so is asked of second_pack.py at the end."""
 
     def __init__(self, f, fault):
         self.image, self.sheet = sheet_of(f)

@@ -6,10 +6,11 @@
 Without names all bugs are tried. --missing leaves out those that have an outcome already, so that an interrupted run can go
 on; --markdown writes the table and the counts in docs/planted-bugs.md from the outcomes (with --missing and nothing left to
 try, that is all it does); --list only looks whether each edit fits its file. The copy and the outcomes stand in DIR, by
-default target/planted; what is proved there is kept, so that a second run is quicker.
+default planted-bugs in the folder for temporary files: `rt ci` refuses sources outside the crates. What is proved there is kept, so
+that a second run is quicker.
 
-A bug is first met by `rt dev CRATE`, which checks the crate again: `proof`, where it is refused. Where the crate is still
-proved, `rt check` proves the crates above it (`proof above`), runs the programs on their stored input and the tests (`tests`).
+A bug is first met by `rt check` in its crate: `proof`, where it is refused. Where the crate is still proved, `rt all test`
+proves the crates above it (`proof above`), runs the programs on their stored input and the tests (`tests`).
 Then the programs are compared with the second pack minder on random cases and tried by tests/program_cases.py (`cases`).
 What none of these notices has `survived`. `does not compile` and `does not fit` mean that the bug is to be written anew.
 
@@ -21,12 +22,13 @@ import re
 import shutil
 import subprocess
 import sys
+import tempfile
 import time
 
 ROOT = os.path.dirname(os.path.dirname(os.path.abspath(__file__)))
 LIST = os.path.join(ROOT, "tests", "planted_bugs.txt")
 PAGE = os.path.join(ROOT, "docs", "planted-bugs.md")
-RANDOM = [["tests/random_cases.py", "target/bin/packminder", "300", "60", "3"], ["tests/program_cases.py", "target/bin"]]
+RANDOM = [["tests/many_cases.py", "crates/packminder/out/packminder", "300", "60", "3"], ["tests/program_cases.py"]]
 
 
 def read_list():
@@ -68,41 +70,46 @@ def fits(tree, bug):
 
 
 def prepare(work):
-    """A copy of the repository as it is now; what target/ of the copy knows is kept."""
+    """A copy of the repository as it is now; what the checks of the copy kept in out/ stays."""
     tree = os.path.join(work, "tree")
     os.makedirs(tree, exist_ok=True)
-    for part in ("crates", "crates.txt", "tests", "samples"):
+    for part in ("crates.txt", "tests", "samples", "tools"):
         there, here = os.path.join(tree, part), os.path.join(ROOT, part)
         if os.path.isdir(here):
             shutil.rmtree(there, ignore_errors=True)
             shutil.copytree(here, there)
         else:
             shutil.copy2(here, there)
-    if not os.path.isdir(os.path.join(tree, "target")):
-        for part in ("bin", "inc", "log", "obj", "rlib", "stamp"):
-            here = os.path.join(ROOT, "target", part)
-            if os.path.isdir(here):
-                shutil.copytree(here, os.path.join(tree, "target", part), symlinks=True)
+    for crate in os.listdir(os.path.join(ROOT, "crates")):
+        there, here = (os.path.join(top, "crates", crate) for top in (tree, ROOT))
+        os.makedirs(there, exist_ok=True)
+        for part in os.listdir(there):
+            if os.path.isdir(os.path.join(there, part)):
+                if part != "out":
+                    shutil.rmtree(os.path.join(there, part))
+            else:
+                os.remove(os.path.join(there, part))
+        shutil.copytree(here, there, ignore=shutil.ignore_patterns("out"), dirs_exist_ok=True)
     return tree
 
 
-def run(tree, words, limit=3600):
-    done = subprocess.run(words, cwd=tree, stdout=subprocess.PIPE, stderr=subprocess.STDOUT, text=True, timeout=limit, errors="replace")
+def run(tree, words, limit=3600, crate=""):
+    done = subprocess.run(words, cwd=os.path.join(tree, "crates", crate) if crate else tree, stdout=subprocess.PIPE, stderr=subprocess.STDOUT, text=True, timeout=limit, errors="replace")
     return done.returncode, done.stdout.replace(tree + "/", "")
 
 
 def refusal(text):
     """Of a check that did not prove a crate: the function, the first place, what is not proved, and whether values were found."""
-    place = re.search(r"^(?:crates/\w+/)?(\S+?:\d+)(?::\d+)?: error", text, re.M) or re.search(r"^note: (?:crates/\w+/)?(\S+?:\d+):\d+:", text, re.M)
+    place = re.search(r"^(?:\./)?(?:crates/\w+/)?(\S+?:\d+)(?::\d+)?: error", text, re.M) or re.search(r"^note: (?:crates/\w+/)?(\S+?:\d+):\d+:", text, re.M)
     left = re.search(r"it is not proved that (.*?)(?: \(`|$)", text, re.M)
-    named = re.search(r"^(?:fn|impl|struct|enum|law|trait|ghost) (\S+): no proof: (?!it calls)", text, re.M) or re.search(r"^(?:\w+) (\S+): no proof", text, re.M)
+    named = re.search(r"^(?:fn|impl|struct|enum|trait) (\S+): not proved", text, re.M) or re.search(r"^(?:\w+) (\S+): no proof", text, re.M)
     at = place.group(1) if place else ""
-    own = re.match(r"proofs/(?:.*/)?(\w+)/(?:the-impl/)?(?:Answers|Choices|Proof)\.antt", at)
+    own = re.match(r"proofs/(?:.*/)?(\w+)/(?:Answers|Invariants|Proof)\.antt", at)
     return {
         "at": at,
         "fn": own.group(1) if own else named.group(1).rpartition("::")[2] if named else "",
         "left": left.group(1) if left else "",
-        "values": " fails, for all that is known there, where " in text or "fails at" in text,
+        "values": "allow values at which" in text,
     }
 
 
@@ -118,14 +125,14 @@ def noticed(text):
 
 
 def try_bug(tree, bug):
-    code, text = run(tree, ["rt", "dev", bug["crate"]])
+    code, text = run(tree, ["rt", "check"], crate=bug["crate"])
     outcome = {"said": text[-6000:]}
     if "logic=not-proved" in text:
         return outcome | {"by": "proof", "crate": bug["crate"]} | refusal(text)
     if code != 0:
         error = re.search(r"^.*error.*$", text, re.M)
         return outcome | {"by": "does not compile", "left": error.group(0)[:200] if error else text[-200:]}
-    code, text = run(tree, ["rt", "check"])
+    code, text = run(tree, ["rt", "all", "test"])
     outcome["said"] = text[-6000:]
     if code != 0:
         return outcome | noticed(text)
@@ -212,7 +219,7 @@ def markdown(bugs, outcomes):
 
 def main():
     words = sys.argv[1:]
-    work = os.path.join(ROOT, "target", "planted")
+    work = os.path.join(tempfile.gettempdir(), "planted-bugs")
     if "--work" in words:
         at = words.index("--work")
         work = os.path.abspath(words[at + 1])
@@ -238,7 +245,7 @@ def main():
     for n, bug in enumerate(todo, 1):
         if bug["crate"] not in proved:
             # a refusal says something only where the crate is proved without the bug
-            code, text = run(tree, ["rt", "dev", bug["crate"]])
+            code, text = run(tree, ["rt", "check"], crate=bug["crate"])
             if code != 0:
                 sys.exit(f"{bug['crate']} is not proved as it is:\n{text[-2000:]}")
             proved.add(bug["crate"])

@@ -1,9 +1,9 @@
 #!/usr/bin/env python3
 """Tries what no contract can speak of: how the programs read and print, at lengths and in pieces that a short stored case has not.
 
-    tests/program_cases.py FOLDER [CASES [SEED]]
+    tests/program_cases.py [CASES [SEED]]
 
-FOLDER has the programs (target/bin). `compare` is held to the second pack minder on random pairs of sheets, and to the order
+The programs are those that `tools/build packminder compare` builds. `compare` is held to the second pack minder on random pairs of sheets, and to the order
 of sheets as docs/order-of-sheets.md has it; then both programs get more records than they read at a time, input that comes a
 byte at a time, and output that fails. Ends with a count, and with status 1 at the first case that is not as it should be.
 """
@@ -16,8 +16,9 @@ import time
 
 sys.path.insert(0, os.path.dirname(os.path.abspath(__file__)))
 import generator
-import whole_history as second
+import second_pack as second
 
+ROOT = os.path.dirname(os.path.dirname(os.path.abspath(__file__)))
 AT_A_TIME = 341
 FULL = "/dev/full"
 
@@ -146,9 +147,8 @@ def failing(program, data):
 
 
 def main():
-    folder = sys.argv[1]
-    count, seed = (int(x) for x in (sys.argv[2:] + ["150", "1"][len(sys.argv) - 2:]))
-    packminder, compare = (os.path.join(folder, name) for name in ("packminder", "compare"))
+    count, seed = (int(x) for x in (sys.argv[1:] + ["150", "1"][len(sys.argv) - 1:]))
+    packminder, compare = (os.path.join(ROOT, "crates", name, "out", name) for name in ("packminder", "compare"))
     rng = random.Random(seed)
     seen = random_pairs(compare, rng, count)
     image = good_image(rng)
