@@ -113,15 +113,17 @@ def refusal(text):
     }
 
 
-def noticed(text):
-    """What a whole check failed at: the proof of a crate, its tests, or the run of a program."""
-    above = re.search(r"^rt: (\w+) NOT PROVED", text, re.M)
-    if above:
-        return {"by": "proof above", "crate": above.group(1)} | refusal(text)
-    test = re.search(r"^rt: (\w+)(?: proved, and its tests FAILED|: its tests are NOT PROVED)", text, re.M)
-    ran = re.search(r"^rt: (\w+) proved, and its run FAILED", text, re.M)
-    left = f"the tests of `{test.group(1)}`" if test else f"the stored output of `{ran.group(1)}`" if ran else text.strip().splitlines()[-1]
-    return {"by": "tests", "left": left}
+def noticed(tree, bug, text):
+    """What a whole check failed at: the proof of a crate above, its tests, or the run of a program."""
+    failed = re.search(r"^(\w+): failed", text.partition("== summary")[2], re.M)
+    open_in = re.search(r"^\w+ (\w+)::\S+: not proved", text, re.M)
+    if open_in and open_in.group(1) != bug["crate"]:
+        return {"by": "proof above", "crate": open_in.group(1)} | refusal(text)
+    if not failed:
+        return {"by": "tests", "left": text.strip().splitlines()[-1]}
+    crate = failed.group(1)
+    program = os.path.exists(os.path.join(tree, "crates", crate, "src", "main.rt"))
+    return {"by": "tests", "left": f"the stored output of `{crate}`" if program else f"the tests of `{crate}`"}
 
 
 def try_bug(tree, bug):
@@ -135,7 +137,7 @@ def try_bug(tree, bug):
     code, text = run(tree, ["rt", "all", "test"])
     outcome["said"] = text[-6000:]
     if code != 0:
-        return outcome | noticed(text)
+        return outcome | noticed(tree, bug, text)
     for words in RANDOM:
         if not os.path.isfile(os.path.join(tree, words[0])):
             continue
