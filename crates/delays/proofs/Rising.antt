@@ -1,5 +1,8 @@
 -- A table rises where one test of it, which the checker computes, comes out true; and each timer's table does.
-use Rattle.std.proofs.Common.{ℕ, zero, suc, ◌<◌, ◌≤◌, Bool, true, false, ◌&&◌, T, leb, List, [], ◌∷◌, length, get_or, le_trans, le_refl, le_of_suc-le-suc, arith, leb→le}
+use Rattle.std.proofs.Common.{ℕ, zero, suc, ◌<◌, ◌≤◌, Bool, true, false, ◌&&◌, T, leb, List, [], ◌∷◌, length, get_or, Decides, refl, le_trans, le_refl, le_of_suc-le-suc, arith, leb→le}
+use Rattle.std.specs.List.{AllByRecursion, list_all}
+use Rattle.std.proofs.lemmas.Bool.{leb-true, le-leb}
+use Rattle.std.proofs.lemmas.Bool.Decides.{Decides-and, Decides-like}
 use Rattle.delays.specs.declared.Timer.{Timer}
 use Rattle.delays.specs.declared.Timer.TheVariants.{Undervoltage, Shutdown, Temperature, Transition, Permanent, Overcurrent, Overvoltage, Full, Watchdog}
 use Rattle.delays.specs.Delays.{setting_of, table, delay_of, SettingsNoLower}
@@ -59,20 +62,31 @@ setting_fits Watchdog w = omega arith
 pub no_shorter : (t : Timer) (v w : ℕ) → setting_of t v ≤ setting_of t w → delay_of t v ≤ delay_of t w
 no_shorter t v w h = rising (table t) (table-rises t) (setting_of t v) (setting_of t w) h (setting_fits t w)
 
--- seven fields serve nine timers
-pub by_fields : (v w : ℕ) → setting_of Overcurrent v ≤ setting_of Overcurrent w
-    → (setting_of Undervoltage v ≤ setting_of Undervoltage w) × ((setting_of Temperature v ≤ setting_of Temperature w) × (setting_of Permanent v ≤ setting_of Permanent w))
-    → (setting_of Overvoltage v ≤ setting_of Overvoltage w) × ((setting_of Full v ≤ setting_of Full w) × (setting_of Watchdog v ≤ setting_of Watchdog w))
-    → SettingsNoLower v w
-by_fields v w o f c Undervoltage = f.0
-by_fields v w o f c Shutdown = f.0
-by_fields v w o f c Temperature = f.1.0
-by_fields v w o f c Transition = f.1.0
-by_fields v w o f c Permanent = f.1.1
-by_fields v w o f c Overcurrent = o
-by_fields v w o f c Overvoltage = c.0
-by_fields v w o f c Full = c.1.0
-by_fields v w o f c Watchdog = c.1.1
+-- one timer of each of the seven fields, which serve nine timers
+abbrev pub fields : List Timer
+fields = Undervoltage ∷ Temperature ∷ Permanent ∷ Overcurrent ∷ Overvoltage ∷ Full ∷ Watchdog ∷ []
+
+fields_decide : (v w : ℕ) (ts : List Timer) → Decides (list_all (λ t. leb (setting_of t v) (setting_of t w)) ts) (AllByRecursion (λ t. setting_of t v ≤ setting_of t w) ts)
+fields_decide v w [] = (λ _. tt, λ _. refl)
+fields_decide v w (t ∷ ts) = Decides-and _ _ (leb-true (setting_of t v) (setting_of t w), le-leb (setting_of t v) (setting_of t w)) (fields_decide v w ts)
+
+by_fields : (v w : ℕ) → AllByRecursion (λ t. setting_of t v ≤ setting_of t w) fields → SettingsNoLower v w
+by_fields v w h Undervoltage = h.0
+by_fields v w h Shutdown = h.0
+by_fields v w h Temperature = h.1.0
+by_fields v w h Transition = h.1.0
+by_fields v w h Permanent = h.1.1.0
+by_fields v w h Overcurrent = h.1.1.1.0
+by_fields v w h Overvoltage = h.1.1.1.1.0
+by_fields v w h Full = h.1.1.1.1.1.0
+by_fields v w h Watchdog = h.1.1.1.1.1.1.0
+
+pub settings_decide : (v w : ℕ) → Decides (list_all (λ t. leb (setting_of t v) (setting_of t w)) fields) (SettingsNoLower v w)
+settings_decide v w =
+    Decides-like _
+    (by_fields v w)
+    (λ s. (s Undervoltage, (s Temperature, (s Permanent, (s Overcurrent, (s Overvoltage, (s Full, (s Watchdog, tt))))))))
+    (fields_decide v w fields)
 
 -- no delay is longer than the longest full delay
 pub delay_bound : (t : Timer) (w : ℕ) → delay_of t w ≤ 5760000

@@ -1,11 +1,11 @@
 // The delay word nDelayCfg: the setting of each timer in it, and the delay in milliseconds that the setting stands for.
 #![tactic(auto)]
 
-ghost use Rattle.std.specs.Prelude.{◌≡◌, ◌%◌, ◌<◌, true, length, Decides, nat_le, slice_index};
+ghost use Rattle.std.specs.Prelude.{◌≡◌, true, Decides};
 ghost use Rattle.delays.specs.Delays.{setting_of, table, delay_of, NoShorter, SettingsNoLower, DelaysNoShorter};
 
 // What a delay is for. Undervoltage and Shutdown go by one setting, and so do Temperature and Transition.
-#[derive(Clone, Copy)]
+#[derive(Clone, Copy, Debug, PartialEq, Eq)]
 pub enum Timer {
     Undervoltage,
     Shutdown,
@@ -33,49 +33,35 @@ const FULL: [u32; 8] = [
 
 const WATCHDOG: [u32; 4] = [22_500, 45_000, 90_000, 180_000];
 
-// The lowest two bits.
-fn two_bits(word: u16) -> u16
-    ensures { result ≡ word % 4 }
-{
-    word & 3
-}
-
-// The lowest three bits.
-fn three_bits(word: u16) -> u16
-    ensures { result ≡ word % 8 }
-{
-    word & 7
-}
-
-// The setting of a timer: its field of the delay word.
-fn setting(word: u16, timer: Timer) -> u16
-    ensures { result ≡ setting_of timer word }
-{
-    match timer {
-        Timer::Undervoltage | Timer::Shutdown => two_bits(word),
-        Timer::Temperature | Timer::Transition => two_bits(word >> 2),
-        Timer::Permanent => two_bits(word >> 4),
-        Timer::Overcurrent => three_bits(word >> 6),
-        Timer::Overvoltage => two_bits(word >> 9),
-        Timer::Full => three_bits(word >> 11),
-        Timer::Watchdog => two_bits(word >> 14),
+impl Timer {
+    // The setting of the timer: its field of the delay word.
+    fn setting(self, word: u16) -> u16
+        ensures { result ≡ setting_of self word }
+    {
+        match self {
+            Timer::Undervoltage | Timer::Shutdown => word % 4,
+            Timer::Temperature | Timer::Transition => (word >> 2) % 4,
+            Timer::Permanent => (word >> 4) % 4,
+            Timer::Overcurrent => (word >> 6) % 8,
+            Timer::Overvoltage => (word >> 9) % 4,
+            Timer::Full => (word >> 11) % 8,
+            Timer::Watchdog => (word >> 14) % 4,
+        }
     }
-}
 
-// The entry of a timer's table for a setting that the timer can have.
-fn entry(timer: Timer, setting: u16) -> u32
-    requires { setting < length (table timer) }
-    ensures { result ≡ slice_index (table timer) setting }
-{
-    let at = setting as usize;
-    match timer {
-        Timer::Undervoltage | Timer::Temperature => DEBOUNCE[at],
-        Timer::Permanent | Timer::Overvoltage => DEBOUNCE[at],
-        Timer::Shutdown => SHUTDOWN[at],
-        Timer::Transition => TRANSITION[at],
-        Timer::Overcurrent => OVERCURRENT[at],
-        Timer::Full => FULL[at],
-        Timer::Watchdog => WATCHDOG[at],
+    // The delay for each setting that the timer can have.
+    fn table(self) -> &'static [u32]
+        ensures { result.now ≡ table self }
+    {
+        match self {
+            Timer::Undervoltage | Timer::Temperature | Timer::Permanent | Timer::Overvoltage =>
+                &DEBOUNCE,
+            Timer::Shutdown => &SHUTDOWN,
+            Timer::Transition => &TRANSITION,
+            Timer::Overcurrent => &OVERCURRENT,
+            Timer::Full => &FULL,
+            Timer::Watchdog => &WATCHDOG,
+        }
     }
 }
 
@@ -84,32 +70,28 @@ pub fn delay(word: u16, timer: Timer) -> u32
     ensures value { result ≡ delay_of timer word }
     ensures rises { NoShorter timer word result }
 {
-    entry(timer, setting(word, timer))
+    timer.table()[usize::from(timer.setting(word))]
 }
 
-fn no_lower(a: u16, b: u16, timer: Timer) -> bool
-    ensures { result ≡ nat_le (setting_of timer a) (setting_of timer b) }
-{
-    setting(a, timer) <= setting(b, timer)
-}
-
-fn all_no_lower(a: u16, b: u16) -> bool
-    ensures decides { Decides result (SettingsNoLower a b) }
-    ensures delays { result ≡ true → DelaysNoShorter a b }
-{
-    let faults = no_lower(a, b, Timer::Undervoltage)
-        & (no_lower(a, b, Timer::Temperature) & no_lower(a, b, Timer::Permanent));
-    let charging = no_lower(a, b, Timer::Overvoltage)
-        & (no_lower(a, b, Timer::Full) & no_lower(a, b, Timer::Watchdog));
-    no_lower(a, b, Timer::Overcurrent) & (faults & charging)
-}
+// One timer for each field of the delay word.
+const FIELDS: [Timer; 7] = [
+    Timer::Undervoltage,
+    Timer::Temperature,
+    Timer::Permanent,
+    Timer::Overcurrent,
+    Timer::Overvoltage,
+    Timer::Full,
+    Timer::Watchdog,
+];
 
 // Whether the word b is no lower than a in every field; then none of its delays is shorter.
 pub fn sets_no_lower(a: u16, b: u16) -> bool
     ensures decides { Decides result (SettingsNoLower a b) }
     ensures delays { result ≡ true → DelaysNoShorter a b }
 {
-    all_no_lower(a, b)
+    FIELDS
+        .iter()
+        .all(|timer| timer.setting(a) <= timer.setting(b))
 }
 
 #[cfg(test)]
