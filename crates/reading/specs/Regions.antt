@@ -3,6 +3,24 @@ use Rattle.std.specs.Prelude.{ℕ, ◌+◌, ◌-◌, min, Bool, cond, ◌||◌, 
 use Rattle.sheet.specs.declared.limits.Row.{Row}
 use Rattle.sheet.specs.Charging.{no_row}
 use Rattle.sheet.specs.declared.limits.Limits.{Limits}
+use Rattle.reading.specs.declared.region.Region.{Region}
+use Rattle.reading.specs.declared.region.Region.TheVariants.{TooCold, Cold2, Cold1, Cool, Room, Warm, Hot, Hot2, TooHot}
+
+-- how many of the edges a temperature of the region has reached
+abbrev pub reached_of : Region → ℕ
+reached_of TooCold = 0
+reached_of Cold2 = 1
+reached_of Cold1 = 2
+reached_of Cool = 3
+reached_of Room = 4
+reached_of Warm = 5
+reached_of Hot = 6
+reached_of Hot2 = 7
+reached_of TooHot = 8
+
+-- the region of a temperature that has reached so many edges
+abbrev pub region_of : ℕ → Region
+region_of reached = slice_index_or (TooCold ∷ Cold2 ∷ Cold1 ∷ Cool ∷ Room ∷ Warm ∷ Hot ∷ Hot2 ∷ []) reached TooHot
 
 -- how many of the edges a temperature has reached
 abbrev pub reached_by : List ℤ → ℤ → ℕ

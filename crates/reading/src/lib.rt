@@ -7,4 +7,4 @@ mod region;
 
 pub use prepared::Prepared;
 pub use reading::Reading;
-pub use region::Region;
+pub use region::{Region, reaches};

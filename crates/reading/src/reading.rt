@@ -1,5 +1,5 @@
 // What is measured at one time.
-#[derive(Clone, Copy)]
+#[derive(Clone, Copy, Debug, PartialEq, Eq)]
 pub struct Reading {
     // milliseconds since the reading before
     pub elapsed: u16,

@@ -1,99 +1,114 @@
 // The temperature regions: eight edges part nine of them, from TooCold to TooHot.
-ghost use Rattle.std.specs.Prelude.{◌≡◌, ◌+◌, ◌<◌, ◌≤◌, pos, ◌*ℤ◌, if◌then◌else◌, int_le};
-ghost use Rattle.reading.specs.Regions.{reached_by, number_of, row_at, is_end, level_at, current_at, voltage_at};
+ghost use Rattle.std.specs.Prelude.{◌≡◌, ◌<◌, ◌≤◌, pos, ◌*ℤ◌, if◌then◌else◌, int_le, None, Some, slice_index_or};
+ghost use Rattle.reading.specs.Regions.{reached_of, region_of, reached_by, number_of, row_at, is_end, level_at, current_at, voltage_at};
+ghost use Rattle.sheet.specs.Charging.{no_row};
 
-use sheet::{Degrees, Sheet};
+use sheet::{Degrees, Row, Sheet};
 
-// A region, by how many of the eight edges the temperature has reached.
-#[derive(Clone, Copy)]
-pub struct Region {
-    pub reached: u8,
-    ghost known: { reached ≤ 8 },
+// The regions in the order of their edges: a region's place is how many of the edges the temperature has reached.
+#[derive(Clone, Copy, Debug, PartialEq, Eq)]
+pub enum Region {
+    TooCold,
+    Cold2,
+    Cold1,
+    Cool,
+    Room,
+    Warm,
+    Hot,
+    Hot2,
+    TooHot,
 }
 
-// An edge is in whole degrees. The product is taken instead of a quotient of the temperature, which would round towards zero.
-fn reaches(cell: i16, edge: i8) -> bool
-    ensures { result ≡ int_le (edge *ℤ pos 256) cell }
+// Whether a temperature, in 1/256 degree, has reached a whole degree. The product is taken instead of a quotient of the
+// temperature, which would round towards zero.
+pub fn reaches(temperature: i16, degree: i8) -> bool
+    ensures { result ≡ int_le (degree *ℤ pos 256) temperature }
 {
-    i32::from(edge) * 256 <= i32::from(cell)
+    i32::from(degree) * 256 <= i32::from(temperature)
 }
 
-// 1 where the edge is reached, else 0.
-fn step(cell: i16, edge: i8) -> u8
-    ensures value { result ≡ (if int_le (edge *ℤ pos 256) cell then 1 else 0) }
-    ensures bound { result ≤ 1 }
-{
-    if reaches(cell, edge) { 1 } else { 0 }
-}
-
-fn count(edges: &[i8; 8], cell: i16) -> u8
+fn count_reached(edges: &[i8; 8], cell: i16) -> usize
     ensures value { result ≡ reached_by edges.now cell }
     ensures bound { result ≤ 8 }
 {
-    let [a, b, c, d, e, f, g, h] = *edges;
-    let cold = step(cell, a) + step(cell, b) + step(cell, c) + step(cell, d);
-    let warm = step(cell, e) + step(cell, f) + step(cell, g) + step(cell, h);
-    cold + warm
+    edges.iter().filter(|edge| reaches(cell, **edge)).count()
 }
 
 impl Region {
     // The region of a cell temperature, in 1/256 degree.
     pub fn of(degrees: &Degrees, cell: i16) -> Region
-        ensures { result.reached ≡ reached_by degrees.now.edges cell }
+        ensures region { result ≡ region_of (reached_by degrees.now.edges cell) }
+        ensures reached { reached_of result ≡ reached_by degrees.now.edges cell }
     {
-        Region {
-            reached: count(&degrees.edges, cell),
+        match count_reached(&degrees.edges, cell) {
+            0 => Region::TooCold,
+            1 => Region::Cold2,
+            2 => Region::Cold1,
+            3 => Region::Cool,
+            4 => Region::Room,
+            5 => Region::Warm,
+            6 => Region::Hot,
+            7 => Region::Hot2,
+            _ => Region::TooHot,
         }
-    }
-
-    // From -4, TooCold, to 4, TooHot; 0 is Room.
-    pub fn number(&self) -> i8
-        ensures { result ≡ number_of self.now.reached }
-    {
-        self.reached as i8 - 4
     }
 
     // The row of the sheet that serves the region: TooCold takes that of Cold2, TooHot that of Hot2.
     pub fn row(&self) -> usize
-        ensures value { result ≡ row_at self.now.reached }
+        ensures value { result ≡ row_at (reached_of self.now) }
         ensures bound { result < 7 }
     {
-        (self.reached.saturating_sub(1) as usize).min(6)
+        (*self as usize).saturating_sub(1).min(6)
     }
 
     // TooCold and TooHot, where nothing may be charged.
     pub fn is_end(&self) -> bool
-        ensures { result ≡ is_end self.now.reached }
+        ensures { result ≡ is_end (reached_of self.now) }
     {
-        self.reached == 0 || self.reached == 8
+        matches!(self, Region::TooCold | Region::TooHot)
+    }
+
+    // The row by which the region may be charged, which the ends do not have.
+    fn charging_row(&self, sheet: &Sheet) -> Option<Row>
+        ensures { result
+            ≡ (if is_end (reached_of self.now)
+            then None
+            else Some (slice_index_or sheet.now.limits.rows (row_at (reached_of self.now)) no_row)) }
+    {
+        if self.is_end() {
+            None
+        } else {
+            Some(sheet.limits.rows[self.row()])
+        }
     }
 
     // The over-voltage level of the region's row, in mV.
     pub fn level(&self, sheet: &Sheet) -> u16
-        ensures { result ≡ level_at sheet.now.limits.rows self.now.reached }
+        ensures { result ≡ level_at sheet.now.limits.rows (reached_of self.now) }
     {
         sheet.limits.rows[self.row()].level
     }
 
     // The current that the charger may give in the region, in mA.
     pub fn current(&self, sheet: &Sheet) -> u16
-        ensures { result ≡ current_at sheet.now.limits.rows self.now.reached }
+        ensures { result ≡ current_at sheet.now.limits.rows (reached_of self.now) }
     {
-        if self.is_end() {
-            0
-        } else {
-            sheet.limits.rows[self.row()].current
-        }
+        self.charging_row(sheet).map_or(0, |row| row.current)
     }
 
     // The voltage that the charger may give in the region, in mV.
     pub fn voltage(&self, sheet: &Sheet) -> u16
-        ensures { result ≡ voltage_at sheet.now.limits.rows self.now.reached }
+        ensures { result ≡ voltage_at sheet.now.limits.rows (reached_of self.now) }
     {
-        if self.is_end() {
-            0
-        } else {
-            sheet.limits.rows[self.row()].voltage
-        }
+        self.charging_row(sheet).map_or(0, |row| row.voltage)
+    }
+}
+
+// From -4, TooCold, to 4, TooHot; 0 is Room.
+impl From<Region> for i8 {
+    ghost from_gives = { λ region number. number ≡ number_of (reached_of region) };
+
+    fn from(region: Region) -> i8 {
+        region as i8 - 4
     }
 }
