@@ -1,3 +1,4 @@
 pub mod Implies
 pub mod Order
 pub mod Exactly
+pub mod Mapped

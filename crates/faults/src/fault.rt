@@ -1,12 +1,12 @@
 // The faults that a pack is watched for.
 ghost use Rattle.std.specs.Prelude.{◌≡◌, ◌<◌};
-ghost use Rattle.faults.specs.Faults.{bit_of, timer_of, blocks_charge, blocks_discharge};
+ghost use Rattle.faults.specs.Faults.{bit_of, timer_of};
 
 use delays::Timer;
 use timing::FAULTS;
 
 // Declared in the order of their bits. A permanent fault is never released.
-#[derive(Clone, Copy)]
+#[derive(Clone, Copy, Debug, PartialEq, Eq)]
 pub enum Fault {
     Undervoltage,
     Shutdown,
@@ -62,26 +62,6 @@ impl Fault {
             Fault::Full => Timer::Full,
             Fault::Watchdog => Timer::Watchdog,
             Fault::PermanentHot | Fault::PermanentOvervoltage => Timer::Permanent,
-        }
-    }
-
-    pub(crate) fn blocks_charge(self) -> bool
-        ensures { result ≡ blocks_charge self }
-    {
-        match self {
-            Fault::Undervoltage | Fault::OvercurrentDischarge | Fault::TooHotDischarge => false,
-            _ => true,
-        }
-    }
-
-    pub(crate) fn blocks_discharge(self) -> bool
-        ensures { result ≡ blocks_discharge self }
-    {
-        match self {
-            Fault::Undervoltage | Fault::OvercurrentDischarge | Fault::TooHotDischarge => true,
-            Fault::Shutdown | Fault::DieHot => true,
-            Fault::PermanentHot | Fault::PermanentOvervoltage => true,
-            _ => false,
         }
     }
 }

@@ -7,7 +7,7 @@ mod observing;
 mod rules;
 mod waiting;
 
-pub use blocking::{blocks_charge, blocks_discharge};
+pub use blocking::{Switch, is_blocked};
 pub use fault::Fault;
 pub use observing::observe;
 pub use waiting::delays;
@@ -49,7 +49,7 @@ mod tests {
     fn seen(sheet: &Sheet, fault: Fault, reading: Reading) -> Observation {
         let prepared = Prepared {
             reading,
-            region: Region::of(&sheet.limits.degrees, reading.cell).number(),
+            region: Region::of(&sheet.limits.degrees, reading.cell),
             level: 4300,
             word: true,
         };
