@@ -1,7 +1,9 @@
 -- The first failing check of two lists, one after the other.
-use Rattle.std.proofs.Common.{◌≡◌, ℕ, ◌+◌, ◌<◌, ◌≤◌, Bool, true, false, cond, List, [], ◌∷◌, ◌++◌, length, get_or, drop, Some, None, Ok, Option, refl, ap, ◌∙◌}
+use Rattle.std.proofs.Common.{◌≡◌, ℕ, ◌+◌, ◌<◌, ◌≤◌, Bool, true, false, cond, List, [], ◌∷◌, ◌++◌, length, get_or, drop, Some, None, Ok, Option, refl, inl, inr, ap, ◌∙◌}
 use Rattle.std.proofs.lemmas.List.{at_drop_more, at_drop_all}
-use Rattle.std.specs.Option.{option_or}
+use Rattle.std.specs.Option.{option_or, option_map}
+use Rattle.std.proofs.lemmas.Bool.{cases_Bool}
+use Rattle.std.specs.Prelude.{find, not}
 use Rattle.layout.specs.declared.rule.Rule.{Rule}
 use Rattle.layout.specs.declared.limits.Row.{Row}
 use Rattle.layout.specs.declared.limits.Limits.{Limits}
@@ -44,3 +46,8 @@ row_step f p rows i h = at_drop_more (λ rs. first_broken (each_row f p rs)) row
 pub row_end : (f : ℕ → Row → List Rule) (p : ℕ) (rows : List Row) (i : ℕ) → length rows ≤ i → first_broken (each_row f p (drop i rows)) ≡ None
 unfolding each_row
 row_end f p rows i h = at_drop_all (λ rs. first_broken (each_row f p rs)) rows i h
+
+-- `find` and `map` give the first broken place
+pub found : (rs : List Rule) → option_map (λ r. r.place) (find (λ r. not r.kept) rs) ≡ first_broken rs
+found [] = refl
+found (r ∷ rs) = elim (cases_Bool r.kept) [ inl k ↦ rw k (found rs) | inr k ↦ rw k refl ]

@@ -7,22 +7,24 @@ ghost use Rattle.layout.specs.Laws.{Judged, WritesBack, OneImage};
 use super::agreement::check_agreement;
 use super::contents::{check_contents, check_sum};
 use super::ranges::check_ranges;
-use layout::{Limits, Refusal, read_limits};
+use layout::{IMAGE, Limits, Refusal, read_limits};
 
 // The checks, in the order of their refusals' numbers: the first refusal counts.
 fn check(image: &[u8]) -> Result<Limits, Refusal>
     ensures { result ≡ decoded image.now }
 {
-    if image.len() != 116 {
+    let Ok(image) = <&[u8; IMAGE]>::try_from(image) else {
         return Err(Refusal::Length);
-    }
+    };
+    check_contents(image)?;
+    check_sum(image)?;
     let limits = read_limits(image);
-    let contents = check_contents(image).and(check_sum(image));
-    let fields = check_ranges(&limits).and(check_agreement(&limits));
-    contents.and(fields).and(Ok(limits))
+    check_ranges(&limits)?;
+    check_agreement(&limits)?;
+    Ok(limits)
 }
 
-// The same, with what follows of the checks.
+// The same, with what follows of the checks, said once for all seven ways out of them.
 pub fn judge(image: &[u8]) -> Result<Limits, Refusal>
     ensures value { result ≡ decoded image.now }
     ensures judged { Judged image.now result }

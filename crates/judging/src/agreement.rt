@@ -5,8 +5,9 @@ ghost use Rattle.layout.specs.Rules.{level_conflicts, edge_conflicts, row_confli
 ghost use Rattle.layout.specs.Decoded.{refuse, conflicts};
 
 use super::broken::first_broken;
-use super::row::{RowRules, first_broken_row};
+use super::row::first_broken_row;
 use layout::{Levels, Limits, Refusal, Row, Rule, Steps};
+use std::array;
 
 fn level_conflicts(l: &Levels) -> [Rule; 1]
     ensures { result ≡ level_conflicts l.now }
@@ -17,48 +18,14 @@ fn level_conflicts(l: &Levels) -> [Rule; 1]
     }]
 }
 
-// Whether the edge after this one is not below it.
-fn rises(edges: &[i8], at: usize) -> bool
-    requires { at + 1 < length edges.now }
-    ensures { result ≡ int_le (slice_index_or edges.now at (pos 0)) (slice_index_or edges.now (at + 1) (pos 0)) }
-{
-    edges[at] <= edges[at + 1]
-}
-
-fn edge_conflicts(edges: &[i8]) -> [Rule; 7]
-    requires { length edges.now ≡ 8 }
+// Each edge after the first, which stands at 44, is not below the one before it.
+fn edge_conflicts(edges: &[i8; 8]) -> [Rule; 7]
     ensures { result ≡ edge_conflicts edges.now }
 {
-    [
-        Rule {
-            place: 45,
-            kept: rises(edges, 0),
-        },
-        Rule {
-            place: 46,
-            kept: rises(edges, 1),
-        },
-        Rule {
-            place: 47,
-            kept: rises(edges, 2),
-        },
-        Rule {
-            place: 48,
-            kept: rises(edges, 3),
-        },
-        Rule {
-            place: 49,
-            kept: rises(edges, 4),
-        },
-        Rule {
-            place: 50,
-            kept: rises(edges, 5),
-        },
-        Rule {
-            place: 51,
-            kept: rises(edges, 6),
-        },
-    ]
+    array::from_fn(|i| Rule {
+        place: 45 + i as u8,
+        kept: edges[i] <= edges[i + 1],
+    })
 }
 
 fn row_conflicts(overdrop: u16, place: u8, row: &Row) -> [Rule; 2]
@@ -75,20 +42,6 @@ fn row_conflicts(overdrop: u16, place: u8, row: &Row) -> [Rule; 2]
             kept: overdrop <= row.level,
         },
     ]
-}
-
-// A row's numbers agree with each other and with the over-voltage drop.
-#[derive(Drop)]
-struct InAgreement {
-    overdrop: u16,
-}
-
-impl RowRules for InAgreement {
-    ghost rules = { λ s. row_conflicts s.overdrop };
-
-    fn first_broken_at(&self, place: u8, row: &Row) -> Option<u8> {
-        first_broken(&row_conflicts(self.overdrop, place, row))
-    }
 }
 
 fn step_conflicts(s: &Steps) -> [Rule; 6]
@@ -124,15 +77,6 @@ fn step_conflicts(s: &Steps) -> [Rule; 6]
     ]
 }
 
-fn at_odds(broken: Option<u8>) -> Result<(), Refusal>
-    ensures { result ≡ refuse broken Conflict (Ok tt) }
-{
-    match broken {
-        Some(place) => Err(Refusal::Conflict(place)),
-        None => Ok(()),
-    }
-}
-
 // The parts stand in the order of the image, as in `check_ranges`.
 pub(crate) fn check_agreement(l: &Limits) -> Result<(), Refusal>
     ensures { result ≡ conflicts l.now }
@@ -140,10 +84,14 @@ pub(crate) fn check_agreement(l: &Limits) -> Result<(), Refusal>
     let front = first_broken(&level_conflicts(&l.levels)).or(first_broken(&edge_conflicts(
         &l.degrees.edges,
     )));
-    let agreement = InAgreement {
-        overdrop: l.levels.overdrop,
-    };
-    let rows = first_broken_row(&agreement, &l.rows);
+    let overdrop = l.levels.overdrop;
+    let broken = |place: u8, row: &Row|
+        requires { place < 200 }
+    { first_broken(&row_conflicts(overdrop, place, row)) };
+    let rows = first_broken_row(broken, &l.rows);
     let steps = first_broken(&step_conflicts(&l.steps));
-    at_odds(front.or(rows).or(steps))
+    front
+        .or(rows)
+        .or(steps)
+        .map_or(Ok(()), |place| Err(Refusal::Conflict(place)))
 }

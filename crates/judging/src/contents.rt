@@ -6,7 +6,7 @@ ghost use Rattle.layout.specs.Rules.{first_broken, is_entry, entry_rules};
 ghost use Rattle.layout.specs.Decoded.{refuse, contents, summed};
 
 use super::broken::first_broken;
-use layout::{Refusal, Rule, body_sum, word_at};
+use layout::{IMAGE, Refusal, Rule, body_sum, word_at};
 
 // Whether the entry whose four bytes begin at a place is the wanted one: kind of body, length, offset.
 fn is_entry(rest: &[u8], at: usize, kind: u8, size: u8, offset: u16) -> bool
@@ -45,31 +45,17 @@ fn entry_rules(rest: &[u8]) -> [Rule; 5]
     ]
 }
 
-fn check_entries(rest: &[u8]) -> Result<(), Refusal>
-    requires { length rest.now ≡ 114 }
-    ensures { result ≡ refuse (first_broken (entry_rules rest.now)) Entry (Ok tt) }
-{
-    match first_broken(&entry_rules(rest)) {
-        Some(place) => Err(Refusal::Entry(place)),
-        None => Ok(()),
-    }
-}
-
-pub(crate) fn check_contents(image: &[u8]) -> Result<(), Refusal>
-    requires { length image.now ≡ 116 }
+pub(crate) fn check_contents(image: &[u8; IMAGE]) -> Result<(), Refusal>
     ensures { result ≡ contents image.now }
 {
-    let [edition, count, rest @ ..] = image else {
-        return Err(Refusal::Header);
-    };
+    let [edition, count, ..] = image;
     if *edition != 1 || *count != 5 {
         return Err(Refusal::Header);
     }
-    check_entries(rest)
+    first_broken(&entry_rules(&image[2..])).map_or(Ok(()), |place| Err(Refusal::Entry(place)))
 }
 
-pub(crate) fn check_sum(image: &[u8]) -> Result<(), Refusal>
-    requires { length image.now ≡ 116 }
+pub(crate) fn check_sum(image: &[u8; IMAGE]) -> Result<(), Refusal>
     ensures { result ≡ summed image.now }
 {
     if body_sum(image) == word_at(image, 114) {

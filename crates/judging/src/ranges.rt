@@ -5,7 +5,7 @@ ghost use Rattle.layout.specs.Rules.{level_ranges, degree_ranges, row_ranges, st
 ghost use Rattle.layout.specs.Decoded.{refuse, ranges};
 
 use super::broken::first_broken;
-use super::row::{RowRules, first_broken_row};
+use super::row::first_broken_row;
 use layout::{Degrees, Levels, Limits, Refusal, Row, Rule, Steps, Timing};
 
 const VOLTAGE: u16 = 5000;
@@ -58,16 +58,9 @@ fn level_ranges(l: &Levels) -> [Rule; 11]
         },
         Rule {
             place: 42,
-            kept: is_clear(l.chargecfg >> 13),
+            kept: (l.chargecfg >> 13) % 2 == 0,
         },
     ]
-}
-
-// Whether the lowest bit is clear.
-fn is_clear(word: u16) -> bool
-    ensures { result ≡ (word % 2 == 0) }
-{
-    word & 1 == 0
 }
 
 fn degree_ranges(d: &Degrees) -> [Rule; 1]
@@ -97,18 +90,6 @@ fn row_ranges(place: u8, row: &Row) -> [Rule; 3]
             kept: row.level <= VOLTAGE,
         },
     ]
-}
-
-// A row's numbers are in their ranges.
-#[derive(Drop)]
-struct InRange;
-
-impl RowRules for InRange {
-    ghost rules = { λ _. row_ranges };
-
-    fn first_broken_at(&self, place: u8, row: &Row) -> Option<u8> {
-        first_broken(&row_ranges(place, row))
-    }
 }
 
 fn step_ranges(s: &Steps) -> [Rule; 8]
@@ -159,21 +140,18 @@ fn timing_ranges(t: &Timing) -> [Rule; 1]
     }]
 }
 
-fn in_range(broken: Option<u8>) -> Result<(), Refusal>
-    ensures { result ≡ refuse broken Range (Ok tt) }
-{
-    match broken {
-        Some(place) => Err(Refusal::Range(place)),
-        None => Ok(()),
-    }
-}
-
 // The parts stand in the order of the image, so that the first broken place is that of the first part that has one.
 pub(crate) fn check_ranges(l: &Limits) -> Result<(), Refusal>
     ensures { result ≡ ranges l.now }
 {
     let front = first_broken(&level_ranges(&l.levels)).or(first_broken(&degree_ranges(&l.degrees)));
-    let rows = first_broken_row(&InRange, &l.rows);
+    let broken = |place: u8, row: &Row|
+        requires { place < 200 }
+    { first_broken(&row_ranges(place, row)) };
+    let rows = first_broken_row(broken, &l.rows);
     let back = first_broken(&step_ranges(&l.steps)).or(first_broken(&timing_ranges(&l.timing)));
-    in_range(front.or(rows).or(back))
+    front
+        .or(rows)
+        .or(back)
+        .map_or(Ok(()), |place| Err(Refusal::Range(place)))
 }

@@ -1,31 +1,24 @@
 // The rules of the seven rows, row by row.
-ghost use Rattle.std.specs.Prelude.{◌≡◌, ℕ, ◌<◌, List, length};
+ghost use Rattle.std.specs.Prelude.{◌≡◌, ℕ, ◌<◌, List};
 ghost use Rattle.layout.specs.declared.limits.Row.{Row};
 ghost use Rattle.layout.specs.declared.rule.Rule.{Rule};
 ghost use Rattle.layout.specs.Rules.{first_broken, each_row};
 
 use layout::Row;
 
-// What one kind of check asks of a row whose first byte has this place.
-pub(crate) trait RowRules {
-    ghost rules: { Self → ℕ → Row → List Rule };
-
-    fn first_broken_at(&self, place: u8, row: &Row) -> Option<u8>
-        requires { place < 200 }
-        ensures { result ≡ first_broken (rules self.now place row.now) };
-}
-
-// The place of the first rule that a row breaks; the rows stand six bytes apart.
-pub(crate) fn first_broken_row<R: RowRules>(rules: &R, rows: &[Row]) -> Option<u8>
-    requires { length rows.now ≡ 7 }
-    ensures { result ≡ first_broken (each_row (R.RowRules.rules rules.now) 56 rows.now) }
+// The place of the first rule that a row breaks, by a closure that finds it in a row whose first byte has a place.
+pub(crate) fn first_broken_row<F: Fn(u8, &Row) -> Option<u8>>(
+    broken: F,
+    rows: &[Row; 7],
+) -> Option<u8>
+    requires { (place : ℕ) (row : _) → place < 200 → F.pre broken place row }
+    ensures { (rules : ℕ → Row → List Rule) → ((place : ℕ) (row : _) (found : _) → place < 200 → F.post broken place row found → found ≡ first_broken (rules place row.now)) → result ≡ first_broken (each_row rules 56 rows.now) }
 {
-    let mut place: u8 = 56;
-    for row in rows {
-        if let Some(at) = rules.first_broken_at(place, row) {
-            return Some(at);
+    for (i, row) in rows.iter().enumerate() {
+        let found = broken(56 + 6 * i as u8, row);
+        if found.is_some() {
+            return found;
         }
-        place += 6;
     }
     None
 }

@@ -3,6 +3,10 @@ ghost use Rattle.std.specs.Prelude.{◌≡◌, ◌+◌, ◌<◌, length};
 ghost use Rattle.layout.specs.Fields.{word, signed, levels_of, degrees_of, row_of, steps_of, timing_of, limits_of};
 
 use super::limits::{Degrees, Levels, Limits, Row, Steps, Timing};
+use std::array;
+
+// How many bytes an image has.
+pub const IMAGE: usize = 116;
 
 pub fn word_at(image: &[u8], at: usize) -> u16
     requires { at + 1 < length image.now }
@@ -11,15 +15,14 @@ pub fn word_at(image: &[u8], at: usize) -> u16
     u16::from_le_bytes([image[at], image[at + 1]])
 }
 
-fn signed_at(image: &[u8], at: usize) -> i8
-    requires { at < length image.now }
+fn signed_at(image: &[u8; IMAGE], at: usize) -> i8
+    requires { at < 116 }
     ensures { result ≡ signed image.now at }
 {
     image[at].cast_signed()
 }
 
-fn read_levels(image: &[u8]) -> Levels
-    requires { length image.now ≡ 116 }
+fn read_levels(image: &[u8; IMAGE]) -> Levels
     ensures { result ≡ levels_of image.now }
 {
     Levels {
@@ -37,21 +40,11 @@ fn read_levels(image: &[u8]) -> Levels
     }
 }
 
-fn read_degrees(image: &[u8]) -> Degrees
-    requires { length image.now ≡ 116 }
+fn read_degrees(image: &[u8; IMAGE]) -> Degrees
     ensures { result ≡ degrees_of image.now }
 {
     Degrees {
-        edges: [
-            signed_at(image, 44),
-            signed_at(image, 45),
-            signed_at(image, 46),
-            signed_at(image, 47),
-            signed_at(image, 48),
-            signed_at(image, 49),
-            signed_at(image, 50),
-            signed_at(image, 51),
-        ],
+        edges: array::from_fn(|i| signed_at(image, 44 + i)),
         hot: signed_at(image, 52),
         die: signed_at(image, 53),
         permanent: signed_at(image, 54),
@@ -59,8 +52,8 @@ fn read_degrees(image: &[u8]) -> Degrees
     }
 }
 
-fn read_row(image: &[u8], at: usize) -> Row
-    requires { at + 5 < length image.now }
+fn read_row(image: &[u8; IMAGE], at: usize) -> Row
+    requires { at + 5 < 116 }
     ensures { result ≡ row_of image.now at }
 {
     Row {
@@ -70,23 +63,16 @@ fn read_row(image: &[u8], at: usize) -> Row
     }
 }
 
-fn read_steps(image: &[u8]) -> Steps
-    requires { length image.now ≡ 116 }
+fn read_steps(image: &[u8; IMAGE]) -> Steps
     ensures { result ≡ steps_of image.now }
 {
     Steps {
-        voltages: [
-            word_at(image, 98),
-            word_at(image, 100),
-            word_at(image, 102),
-            word_at(image, 104),
-        ],
-        ratios: [image[106], image[107], image[108], image[109]],
+        voltages: array::from_fn(|i| word_at(image, 98 + 2 * i)),
+        ratios: array::from_fn(|i| image[106 + i]),
     }
 }
 
-fn read_timing(image: &[u8]) -> Timing
-    requires { length image.now ≡ 116 }
+fn read_timing(image: &[u8; IMAGE]) -> Timing
     ensures { result ≡ timing_of image.now }
 {
     Timing {
@@ -95,22 +81,13 @@ fn read_timing(image: &[u8]) -> Timing
     }
 }
 
-pub fn read_limits(image: &[u8]) -> Limits
-    requires { length image.now ≡ 116 }
+pub fn read_limits(image: &[u8; IMAGE]) -> Limits
     ensures { result ≡ limits_of image.now }
 {
     Limits {
         levels: read_levels(image),
         degrees: read_degrees(image),
-        rows: [
-            read_row(image, 56),
-            read_row(image, 62),
-            read_row(image, 68),
-            read_row(image, 74),
-            read_row(image, 80),
-            read_row(image, 86),
-            read_row(image, 92),
-        ],
+        rows: array::from_fn(|i| read_row(image, 56 + 6 * i)),
         steps: read_steps(image),
         timing: read_timing(image),
     }

@@ -7,7 +7,7 @@ mod refusal;
 mod rule;
 mod sum;
 
-pub use fields::{read_limits, word_at};
+pub use fields::{IMAGE, read_limits, word_at};
 pub use limits::{Degrees, Levels, Limits, Row, Steps, Timing};
 pub use refusal::Refusal;
 pub use rule::Rule;

@@ -2,7 +2,10 @@
 ghost use Rattle.std.specs.Prelude.{◌≡◌};
 ghost use Rattle.layout.specs.Refusals.{number_of, place_of};
 
-#[derive(Clone, Copy)]
+use std::error::Error;
+use std::fmt;
+
+#[derive(Clone, Copy, Debug, PartialEq, Eq)]
 pub enum Refusal {
     // the image has another length than 116
     Length,
@@ -19,19 +22,6 @@ pub enum Refusal {
 }
 
 impl Refusal {
-    pub fn number(&self) -> u8
-        ensures { result ≡ number_of self.now }
-    {
-        match self {
-            Refusal::Length => 1,
-            Refusal::Header => 2,
-            Refusal::Entry(_) => 3,
-            Refusal::Sum => 4,
-            Refusal::Range(_) => 5,
-            Refusal::Conflict(_) => 6,
-        }
-    }
-
     // The first wrong entry, the first byte of the wrong field, or 0 where the number says it all.
     pub fn place(&self) -> u8
         ensures { result ≡ place_of self.now }
@@ -42,3 +32,35 @@ impl Refusal {
         }
     }
 }
+
+impl From<Refusal> for u8 {
+    ghost from_gives = { λ refusal number. number ≡ number_of refusal };
+
+    fn from(refusal: Refusal) -> u8 {
+        match refusal {
+            Refusal::Length => 1,
+            Refusal::Header => 2,
+            Refusal::Entry(_) => 3,
+            Refusal::Sum => 4,
+            Refusal::Range(_) => 5,
+            Refusal::Conflict(_) => 6,
+        }
+    }
+}
+
+impl fmt::Display for Refusal {
+    fn fmt<W: fmt::Write>(&self, f: &mut fmt::Formatter<W>) -> fmt::Result {
+        match self {
+            Refusal::Length => f.write_str("an image has 116 bytes"),
+            Refusal::Header => f.write_str("wrong edition or count of entries"),
+            Refusal::Entry(entry) => write!(f, "entry {entry} of the contents is wrong"),
+            Refusal::Sum => f.write_str("wrong sum"),
+            Refusal::Range(place) => write!(f, "the field at {place} is out of its range"),
+            Refusal::Conflict(place) => {
+                write!(f, "the field at {place} is at odds with another one")
+            }
+        }
+    }
+}
+
+impl Error for Refusal {}

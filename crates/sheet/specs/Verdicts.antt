@@ -1,5 +1,5 @@
 -- A judgement as a number and a place, and the line that tells it.
-use Rattle.std.specs.Prelude.{ℕ, List, ◌∷◌, ◌++◌, Ok, Err, codes, decimal, Result}
+use Rattle.std.specs.Prelude.{ℕ, List, ◌∷◌, ◌++◌, Some, None, Ok, Err, codes, decimal, Option, Result}
 use Rattle.layout.specs.declared.limits.Limits.{Limits}
 use Rattle.layout.specs.declared.refusal.Refusal.{Refusal}
 use Rattle.sheet.specs.declared.sheet.Sheet.{Sheet}
@@ -11,10 +11,18 @@ abbrev pub limits_in : Result Sheet Refusal → Result Limits Refusal
 limits_in (Ok s) = Ok s.limits
 limits_in (Err e) = Err e
 
--- 0, 0 for an accepted sheet
 abbrev pub verdict_of : Result Limits Refusal → Verdict
-verdict_of (Ok l) = record { number = 0; place = 0 }
-verdict_of (Err e) = record { number = number_of e; place = place_of e }
+verdict_of (Ok l) = record { refusal = None }
+verdict_of (Err e) = record { refusal = Some e }
+
+-- 0, 0 for an accepted sheet
+abbrev pub number_in : Option Refusal → ℕ
+number_in None = 0
+number_in (Some e) = number_of e
+
+abbrev pub place_in : Option Refusal → ℕ
+place_in None = 0
+place_in (Some e) = place_of e
 
 abbrev pub line_of : Verdict → List ℕ
-line_of v = codes "sheet " ++ (decimal v.number ++ (32 ∷ decimal v.place))
+line_of v = codes "sheet " ++ (decimal (number_in v.refusal) ++ (32 ∷ decimal (place_in v.refusal)))

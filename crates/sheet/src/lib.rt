@@ -1,6 +1,7 @@
 // The sheet of a pack's limits: its image of 116 bytes is read, judged and written back.
 #![tactic(auto)]
 
+mod shares;
 mod sheet;
 mod verdict;
 
@@ -9,7 +10,8 @@ pub mod limits {
     pub use layout::{Degrees, Levels, Limits, Row, Steps, Timing};
 }
 
-pub use layout::Refusal;
+pub use layout::{IMAGE, Refusal};
 pub use limits::{Degrees, Levels, Limits, Row, Steps, Timing};
+pub use shares::share;
 pub use sheet::Sheet;
 pub use verdict::Verdict;

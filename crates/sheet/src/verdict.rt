@@ -1,30 +1,39 @@
-// What came of an image, as a number and a place, and the line that tells it.
+// What came of an image: a refusal or none, the number and the place that it is told by, and the line that tells it.
 ghost use Rattle.std.specs.Prelude.{◌≡◌, Some};
-ghost use Rattle.sheet.specs.Verdicts.{limits_in, verdict_of, line_of};
+ghost use Rattle.sheet.specs.Verdicts.{limits_in, verdict_of, number_in, place_in, line_of};
 
 use super::sheet::Sheet;
 use layout::Refusal;
 use std::fmt;
 
-#[derive(Clone, Copy)]
+#[derive(Clone, Copy, Debug, PartialEq, Eq)]
 pub struct Verdict {
-    pub number: u8,
-    pub place: u8,
+    // why there is no sheet; none where there is one
+    pub refusal: Option<Refusal>,
 }
 
 impl Verdict {
-    pub fn of(judged: &Result<Sheet, Refusal>) -> Verdict
-        ensures { result ≡ verdict_of (limits_in judged.now) }
+    // 0 where the image was accepted.
+    pub fn number(&self) -> u8
+        ensures { result ≡ number_in self.now.refusal }
     {
-        match judged {
-            Ok(_) => Verdict {
-                number: 0,
-                place: 0,
-            },
-            Err(refusal) => Verdict {
-                number: refusal.number(),
-                place: refusal.place(),
-            },
+        self.refusal.map_or(0, u8::from)
+    }
+
+    // 0 where the image was accepted, or the refusal names no place.
+    pub fn place(&self) -> u8
+        ensures { result ≡ place_in self.now.refusal }
+    {
+        self.refusal.map_or(0, |refusal| refusal.place())
+    }
+}
+
+impl From<&Result<Sheet, Refusal>> for Verdict {
+    ghost from_gives = { λ judged verdict. verdict ≡ verdict_of (limits_in judged.now) };
+
+    fn from(judged: &Result<Sheet, Refusal>) -> Verdict {
+        Verdict {
+            refusal: judged.as_ref().err().copied(),
         }
     }
 }
@@ -33,8 +42,8 @@ impl fmt::Display for Verdict {
     ghost output = { λ v. Some (line_of v) };
 
     fn fmt<W: fmt::Write>(&self, f: &mut fmt::Formatter<W>) -> fmt::Result {
-        let number = self.number;
-        let place = self.place;
+        let number = self.number();
+        let place = self.place();
         write!(f, "sheet {number} {place}")
     }
 }

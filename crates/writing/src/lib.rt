@@ -7,7 +7,7 @@ ghost use Rattle.layout.specs.Accepted.{sound, fits};
 ghost use Rattle.layout.specs.Decoded.{decoded};
 ghost use Rattle.layout.specs.Encoded.{pair, level_bytes, degree_bytes, row_bytes, step_bytes, body_of, image_of};
 
-use layout::{Degrees, Levels, Limits, Row, Steps, body_sum};
+use layout::{Degrees, IMAGE, Levels, Limits, Row, Steps, body_sum};
 
 // The edition, the count, and the five entries.
 const CONTENTS: [u8; 22] = [
@@ -80,8 +80,7 @@ fn put_words(out: &mut [u8], at: usize, words: &[u16])
     }
 }
 
-fn put_rows(out: &mut [u8], rows: &[Row])
-    requires { (length out.old ≡ 116) × (length rows.now ≡ 7) }
+fn put_rows(out: &mut [u8; IMAGE], rows: &[Row; 7])
     ensures { take 98 out.new ≡ take 56 out.old ++ flat_map row_bytes rows.now }
 {
     let mut at = 56;
@@ -91,16 +90,14 @@ fn put_rows(out: &mut [u8], rows: &[Row])
     }
 }
 
-fn put_steps(out: &mut [u8], s: &Steps)
-    requires { length out.old ≡ 116 }
+fn put_steps(out: &mut [u8; IMAGE], s: &Steps)
     ensures { take 110 out.new ≡ take 98 out.old ++ step_bytes s.now }
 {
     put_words(out, 98, &s.voltages);
     put(out, 106, &s.ratios);
 }
 
-fn fill_body(out: &mut [u8], l: &Limits)
-    requires { length out.old ≡ 116 }
+fn fill_body(out: &mut [u8; IMAGE], l: &Limits)
     ensures { take 114 out.new ≡ body_of l.now }
 {
     put(out, 0, &CONTENTS);
@@ -111,8 +108,7 @@ fn fill_body(out: &mut [u8], l: &Limits)
     put_words(out, 110, &[l.timing.delaycfg, l.timing.enabled]);
 }
 
-fn fill(out: &mut [u8], l: &Limits)
-    requires { length out.old ≡ 116 }
+fn fill(out: &mut [u8; IMAGE], l: &Limits)
     ensures { out.new ≡ image_of l.now }
 {
     fill_body(out, l);
@@ -121,12 +117,12 @@ fn fill(out: &mut [u8], l: &Limits)
 }
 
 // The image of the limits of a sheet, which is read as these limits again.
-pub fn write_image(l: &Limits) -> [u8; 116]
+pub fn write_image(l: &Limits) -> [u8; IMAGE]
     requires { (sound l.now ≡ true) × (fits l.now ≡ true) }
     ensures value { result ≡ image_of l.now }
     ensures read { decoded result ≡ Ok l.now }
 {
-    let mut out = [0u8; 116];
+    let mut out = [0; IMAGE];
     fill(&mut out, l);
     out
 }

@@ -1,5 +1,5 @@
 // Image to sheet, sheet to image, and the delays of a sheet.
-ghost use Rattle.std.specs.Prelude.{◌≡◌, ◌*◌, ◌/◌, ◌%◌, ◌<◌, ◌≤◌, Ok};
+ghost use Rattle.std.specs.Prelude.{◌≡◌, ◌<◌, Ok};
 ghost use Rattle.delays.specs.Delays.{delay_of};
 ghost use Rattle.layout.specs.Charging.{pre_qual_volt, precharge_below, precharge_most};
 ghost use Rattle.layout.specs.Decoded.{decoded};
@@ -8,9 +8,10 @@ ghost use Rattle.layout.specs.Laws.{Judged, WritesBack, OneImage};
 ghost use Rattle.sheet.specs.Verdicts.{limits_in};
 
 use super::Sheet;
+use crate::shares::share;
 use delays::Timer;
 use judging::judge;
-use layout::Refusal;
+use layout::{IMAGE, Refusal};
 use writing::write_image;
 
 impl Sheet {
@@ -26,7 +27,7 @@ impl Sheet {
     }
 
     // The image of the sheet, which is read as this sheet again.
-    pub fn encode(&self) -> [u8; 116]
+    pub fn encode(&self) -> [u8; IMAGE]
         ensures value { result ≡ image_of self.now.limits }
         ensures read { decoded result ≡ Ok self.now.limits }
     {
@@ -52,40 +53,16 @@ impl Sheet {
         ensures value { result ≡ pre_qual_volt self.now.limits.levels.chargecfg }
         ensures bound { result < 16 }
     {
-        four_bits(self.limits.levels.chargecfg >> 9)
+        (self.limits.levels.chargecfg >> 9) % 16
     }
 
     // The most that precharging allows, in mA: a share of the Room row's current.
     pub fn precharge_most(&self) -> u16
         ensures { result ≡ precharge_most self.now.limits }
     {
-        let shares = 1 + six_bits(self.limits.levels.chargecfg);
-        share(self.limits.rows[ROOM].current, shares)
+        let shares = 1 + self.limits.levels.chargecfg % 64;
+        share::<256>(self.limits.rows[ROOM].current, shares)
     }
 }
 
 const ROOM: usize = 3;
-
-// The lowest four bits.
-fn four_bits(word: u16) -> u16
-    ensures value { result ≡ word % 16 }
-    ensures bound { result < 16 }
-{
-    word & 15
-}
-
-// The lowest six bits.
-fn six_bits(word: u16) -> u16
-    ensures value { result ≡ word % 64 }
-    ensures bound { result < 64 }
-{
-    word & 63
-}
-
-// So many 256ths of a current, rounded down.
-fn share(current: u16, shares: u16) -> u16
-    requires { shares ≤ 64 }
-    ensures { result ≡ current * shares / 256 }
-{
-    (u32::from(current) * u32::from(shares) / 256) as u16
-}

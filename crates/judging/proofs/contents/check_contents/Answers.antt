@@ -1,4 +1,4 @@
-use Rattle.std.proofs.Common.{◌≡◌, ℕ, List, get_or, drop, Ok, sym, ap, ◌∙◌, arith}
+use Rattle.std.proofs.Common.{◌≡◌, ℕ, List, get_or, drop, Ok, arith, rules}
 use Rattle.layout.specs.declared.refusal.Refusal.TheVariants.{Entry}
 use Rattle.std.proofs.lemmas.Bool.{eq-eqb}
 use Rattle.std.proofs.lemmas.Bool.Decides.{nat_tests}
@@ -16,6 +16,4 @@ unfolding contents
 returns-then-edition-ne1 c = grind (arith, nat_tests)
 
 pub returns : goal.returns
-returns c =
-    c.check_entries.ensures ∙ ap (λ m. refuse (first_broken (entry_rules m)) Entry (Ok tt)) (take_rest c.args.image.now 2)
-    ∙ sym (contents_at c.args.image.now c.if-edition-ne1.false c.if-count-ne5.false)
+returns c = let e = contents_at c.args.image.now c.if-edition-ne1.false c.if-count-ne5.false in let m = take_rest c.args.image.now 2 in search rules

@@ -1,8 +1,12 @@
-use Rattle.std.proofs.Common.{◌≡◌, ◌+◌, ◌*◌, drop}
+use Rattle.std.proofs.Common.{◌≡◌, ℕ, ◌+◌, ◌*◌, ◌<◌, List, drop}
+use Rattle.layout.specs.declared.limits.Row.{Row}
+use Rattle.layout.specs.declared.rule.Rule.{Rule}
 use Rattle.layout.specs.Rules.{first_broken, each_row}
 use Rattle.judging.proofs.row.first_broken_row.Given as goal
 
-abbrev pub invariant-loop-row : goal.invariant-loop-row
-invariant-loop-row g l =
-    (l.place ≡ 56 + 6 * l.row-index)
-    × (first_broken (each_row (g.R.RowRules.rules l.rules) l.place (drop l.row-index l.rows)) ≡ first_broken (each_row (g.R.RowRules.rules l.rules) 56 l.rows))
+-- the rows before this one keep their rules, whatever the rules are that the closure finds the first broken one of
+abbrev pub invariant-loop-i : goal.invariant-loop-i
+invariant-loop-i g l =
+    (rules : ℕ → Row → List Rule)
+    → ((place : ℕ) (row : _) (found : _) → place < 200 → goal.F-post g l.broken (place) row found → found ≡ first_broken (rules place row.now))
+    → first_broken (each_row rules (56 + 6 * l.i) (drop l.i l.rows)) ≡ first_broken (each_row rules 56 l.rows)
