@@ -2,13 +2,13 @@
 use reading::Reading;
 
 // The switches that the host holds off.
-#[derive(Clone, Copy)]
+#[derive(Clone, Copy, Debug, PartialEq, Eq)]
 pub struct Offs {
     pub charge: bool,
     pub discharge: bool,
 }
 
-#[derive(Clone, Copy)]
+#[derive(Clone, Copy, Debug, PartialEq, Eq)]
 pub enum Call {
     // the pack was measured
     Read(Reading),

@@ -1,17 +1,15 @@
 // What stands in a record of 12 bytes. Two-byte numbers have the low byte first.
-ghost use Rattle.std.specs.Prelude.{◌≡◌, ◌+◌, ◌<◌, ◌≤◌, length};
-ghost use Rattle.sheet.specs.Fields.{word};
+ghost use Rattle.std.specs.Prelude.{◌≡◌, ◌+◌, ◌<◌, ◌≤◌, if◌then◌else◌, Ok, Err};
 ghost use Rattle.calls.specs.Fields.{signed_word, blank, spare_set};
 
-pub(crate) fn word_at(bytes: &[u8], at: usize) -> u16
-    requires { at + 1 < length bytes.now }
-    ensures { result ≡ word bytes.now at }
-{
-    u16::from_le_bytes([bytes[at], bytes[at + 1]])
-}
+use super::rejection::Rejection;
+use layout::word_at;
 
-pub(crate) fn signed_at(bytes: &[u8], at: usize) -> i16
-    requires { at + 1 < length bytes.now }
+// The length of a record.
+pub const RECORD: usize = 12;
+
+pub(crate) fn signed_at(bytes: &[u8; RECORD], at: usize) -> i16
+    requires { at + 1 < RECORD }
     ensures { result ≡ signed_word bytes.now at }
 {
     word_at(bytes, at).cast_signed()
@@ -20,19 +18,18 @@ pub(crate) fn signed_at(bytes: &[u8], at: usize) -> i16
 fn is_blank(bytes: &[u8]) -> bool
     ensures { result ≡ blank bytes.now }
 {
-    for b in bytes {
-        if *b != 0 {
-            return false;
-        }
-    }
-    true
+    bytes.iter().all(|byte| *byte == 0)
 }
 
-// Whether something without a meaning is set: in byte 1 a bit above `flags`, or a byte from the place `spare` on.
+// Refuses what is set without a meaning: in byte 1 a bit above `flags`, or a byte from the place `spare` on.
 // The flags of byte 1 are its lowest bits, so that byte 1 with any other bit is more than all flags.
-pub(crate) fn is_spare_set(bytes: &[u8], flags: u8, spare: usize) -> bool
-    requires { (length bytes.now ≡ 12) × (spare ≤ 12) }
-    ensures { result ≡ spare_set bytes.now flags spare }
+pub(crate) fn refuse_spare(bytes: &[u8; RECORD], flags: u8, spare: usize) -> Result<(), Rejection>
+    requires { spare ≤ RECORD }
+    ensures { result ≡ (if spare_set bytes.now flags spare then Err Rejection.Spare else Ok tt) }
 {
-    bytes[1] > flags || !is_blank(&bytes[spare..])
+    if bytes[1] > flags || !is_blank(&bytes[spare..]) {
+        Err(Rejection::Spare)
+    } else {
+        Ok(())
+    }
 }

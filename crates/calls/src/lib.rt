@@ -8,5 +8,6 @@ mod parsing;
 mod rejection;
 
 pub use call::{Call, Offs};
+pub use fields::RECORD;
 pub use parsing::parse;
 pub use rejection::Rejection;

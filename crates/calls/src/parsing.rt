@@ -1,37 +1,24 @@
 // From a record to the call that it asks for, or to the refusal that it is owed.
-ghost use Rattle.std.specs.Prelude.{◌≡◌, length, slice_index};
+ghost use Rattle.std.specs.Prelude.{◌≡◌, slice_index};
 ghost use Rattle.calls.specs.Parsed.{by_letter, parsed};
 ghost use Rattle.calls.specs.Laws.{ParsedExactly, RangedResult};
 
 use super::call::Call;
-use super::kinds::{parse_clear, parse_limit, parse_reading, parse_switch, parse_word};
+use super::fields::RECORD;
+use super::kinds::{parse_bare, parse_limit, parse_reading, parse_switch};
 use super::rejection::Rejection;
 
 // A record of the right length goes by its first byte, which names its kind.
-fn parse_kind(bytes: &[u8]) -> Result<Call, Rejection>
-    requires { length bytes.now ≡ 12 }
+fn parse_record(bytes: &[u8; RECORD]) -> Result<Call, Rejection>
     ensures { result ≡ by_letter (slice_index bytes.now 0) bytes.now }
 {
-    match bytes[0] as char {
-        'R' => parse_reading(bytes),
-        'W' => parse_word(bytes),
-        'L' => parse_limit(bytes),
-        'S' => parse_switch(bytes),
-        'C' => parse_clear(bytes),
+    match bytes[0] {
+        b'R' => parse_reading(bytes),
+        b'W' => parse_bare(bytes, Call::Word),
+        b'L' => parse_limit(bytes),
+        b'S' => parse_switch(bytes),
+        b'C' => parse_bare(bytes, Call::Clear),
         _ => Err(Rejection::Letter),
-    }
-}
-
-// All checks in their order, with what follows of them.
-fn parse_exactly(bytes: &[u8]) -> Result<Call, Rejection>
-    ensures value { result ≡ parsed bytes.now }
-    ensures exact { ParsedExactly bytes.now result }
-    ensures ranged { RangedResult result }
-{
-    if bytes.len() == 12 {
-        parse_kind(bytes)
-    } else {
-        Err(Rejection::Length)
     }
 }
 
@@ -41,7 +28,10 @@ pub fn parse(bytes: &[u8]) -> Result<Call, Rejection>
     ensures exact { ParsedExactly bytes.now result }
     ensures ranged { RangedResult result }
 {
-    parse_exactly(bytes)
+    match <&[u8; RECORD]>::try_from(bytes) {
+        Ok(record) => parse_record(record),
+        Err(_) => Err(Rejection::Length),
+    }
 }
 
 #[cfg(test)]
@@ -52,11 +42,11 @@ mod tests {
     fn refusal(bytes: &[u8]) -> u8 {
         match parse(bytes) {
             Ok(_) => 0,
-            Err(rejection) => rejection.number(),
+            Err(rejection) => u8::from(rejection),
         }
     }
 
-    fn with_words(letter: u8, flags: u8, first: u16, second: u16) -> [u8; 12] {
+    fn with_words(letter: u8, flags: u8, first: u16, second: u16) -> [u8; RECORD] {
         let [a, b] = first.to_le_bytes();
         let [c, d] = second.to_le_bytes();
         [letter, flags, a, b, c, d, 0, 0, 0, 0, 0, 0]
