@@ -1,4 +1,3 @@
-pub mod Implies
 pub mod Order
 pub mod Exactly
 pub mod Mapped

@@ -1,6 +1,6 @@
 -- What a fault's rule sees under a sheet is no looser than under a sheet at least as generous.
-use Rattle.std.proofs.Common.{◌≡◌, ℕ, ◌<◌, ◌≤◌, not, ◌&&◌, ltb, leb, List, [], ◌∷◌, map, ℤ, pos, ◌+ℤ◌, ◌-ℤ◌, neg_ℤ, ◌≤ℤ◌, sym, ap, arith}
-use lib.Signed.{le_z, lt_z}
+use Rattle.std.proofs.Common.{◌≡◌, ◌∙◌, Bool, ℕ, ◌<◌, ◌≤◌, not, ◌&&◌, ltb, leb, List, [], ◌∷◌, map, ℤ, pos, ◌+ℤ◌, ◌-ℤ◌, neg_ℤ, ◌≤ℤ◌, sym, ap, arith}
+use Rattle.std.specs.Prelude.{int_le, int_lt}
 use Rattle.std.specs.List.{AllZip}
 use Rattle.std.proofs.lemmas.Int.{ints}
 use Rattle.std.proofs.lemmas.Bool.{eqb-true, eq-eqb}
@@ -16,7 +16,10 @@ use Rattle.faults.specs.Rules.{fine, margin, trips, releases, is_enabled}
 use Rattle.faults.specs.Observed.{observation, observations, fault_delay, fault_delays}
 use Rattle.faults.specs.Order.{SameReading, AllTighter, NoDelayLonger}
 use Rattle.timing.proofs.Implies.{Implies, and_implies, leb_implies}
-use Rattle.faults.proofs.Implies.{same_implies, le_z_implies, lt_z_implies}
+
+-- a test that stays the same
+same_implies : {x y : Bool} → x ≡ y → Implies x y
+same_implies e h = sym e ∙ h
 
 volts : (p q : Prepared) → SameReading p q → q.reading.voltage ≡ p.reading.voltage
 volts p q s = ap (λ r. r.voltage) s.reading
@@ -34,30 +37,29 @@ chargers : (p q : Prepared) → SameReading p q → q.reading.charger ≡ p.read
 chargers p q s = ap (λ r. r.charger) s.reading
 
 -- a temperature reaches a lower degree sooner, and is below a higher one sooner
-hot_sooner : {d e t u : ℤ} → d ≤ℤ e → u ≡ t → Implies (le_z (fine e) u) (le_z (fine d) t)
-hot_sooner {d} {e} {t} {u} le same = le_z_implies (fine e) u (fine d) t (λ h. omega (arith, ints, le, same))
+hot_sooner : {d e t u : ℤ} → d ≤ℤ e → u ≡ t → Implies (int_le (fine e) u) (int_le (fine d) t)
+hot_sooner le same h = grind (arith, ints)
 
-cold_sooner : {d e t u : ℤ} → e ≤ℤ d → u ≡ t → Implies (lt_z u (fine e)) (lt_z t (fine d))
-cold_sooner {d} {e} {t} {u} le same = lt_z_implies u (fine e) t (fine d) (λ h. omega (arith, ints, le, same))
+cold_sooner : {d e t u : ℤ} → e ≤ℤ d → u ≡ t → Implies (int_lt u (fine e)) (int_lt t (fine d))
+cold_sooner le same h = grind (arith, ints)
 
 -- and is back no sooner if the hysteresis is no smaller
-cool_later : {d e t u : ℤ} {m n : ℕ} → d ≤ℤ e → n ≤ m → u ≡ t → Implies (lt_z t (fine d -ℤ margin m)) (lt_z u (fine e -ℤ margin n))
-cool_later {d} {e} {t} {u} {m} {n} le less same = lt_z_implies t (fine d -ℤ margin m) u (fine e -ℤ margin n) (λ h. omega (arith, ints, le, less, same))
+cool_later : {d e t u : ℤ} {m n : ℕ} → d ≤ℤ e → n ≤ m → u ≡ t → Implies (int_lt t (fine d -ℤ margin m)) (int_lt u (fine e -ℤ margin n))
+cool_later le less same h = grind (arith, ints)
 
-warm_later : {d e t u : ℤ} {m n : ℕ} → e ≤ℤ d → n ≤ m → u ≡ t → Implies (le_z (fine d +ℤ margin m) t) (le_z (fine e +ℤ margin n) u)
-warm_later {d} {e} {t} {u} {m} {n} le less same = le_z_implies (fine d +ℤ margin m) t (fine e +ℤ margin n) u (λ h. omega (arith, ints, le, less, same))
+warm_later : {d e t u : ℤ} {m n : ℕ} → e ≤ℤ d → n ≤ m → u ≡ t → Implies (int_le (fine d +ℤ margin m) t) (int_le (fine e +ℤ margin n) u)
+warm_later le less same h = grind (arith, ints)
 
 -- a current is past a lower limit sooner, either way
-charges_sooner : {m n : ℕ} {i j : ℤ} → m ≤ n → j ≡ i → Implies (lt_z (pos n) j) (lt_z (pos m) i)
-charges_sooner {m} {n} {i} {j} le same = lt_z_implies (pos n) j (pos m) i (λ h. omega (arith, ints, le, same))
+charges_sooner : {m n : ℕ} {i j : ℤ} → m ≤ n → j ≡ i → Implies (int_lt (pos n) j) (int_lt (pos m) i)
+charges_sooner le same h = grind (arith, ints)
 
-discharges_sooner : {m n : ℕ} {i j : ℤ} → m ≤ n → j ≡ i → Implies (lt_z j (neg_ℤ (pos n))) (lt_z i (neg_ℤ (pos m)))
-discharges_sooner {m} {n} {i} {j} le same = lt_z_implies j (neg_ℤ (pos n)) i (neg_ℤ (pos m)) (λ h. omega (arith, ints, le, same))
+discharges_sooner : {m n : ℕ} {i j : ℤ} → m ≤ n → j ≡ i → Implies (int_lt j (neg_ℤ (pos n))) (int_lt i (neg_ℤ (pos m)))
+discharges_sooner le same h = grind (arith, ints)
 
 -- a charge current has tapered off to a higher limit sooner
-tapers_sooner : {m n : ℕ} {i j : ℤ} → n ≤ m → j ≡ i → Implies (le_z (pos 0) j && le_z j (pos n)) (le_z (pos 0) i && le_z i (pos m))
-tapers_sooner {m} {n} {i} {j} le same =
-    and_implies (le_z (pos 0) j) (le_z j (pos n)) (le_z (pos 0) i) (le_z i (pos m)) (same_implies (ap (le_z (pos 0)) same)) (le_z_implies j (pos n) i (pos m) (λ h. omega (arith, ints, le, same)))
+tapers_sooner : {m n : ℕ} {i j : ℤ} → n ≤ m → j ≡ i → Implies (int_le (pos 0) j && int_le j (pos n)) (int_le (pos 0) i && int_le i (pos m))
+tapers_sooner le same h = grind (arith, ints)
 
 -- whatever trips the looser rule trips the tighter one
 trips_tighter : (f : Fault) (a b : Limits) (p q : Prepared) → Generous b a → SameReading p q → Implies (trips f b q) (trips f a p)
@@ -84,8 +86,8 @@ releases_looser : (f : Fault) (a b : Limits) (p q : Prepared) → Generous b a �
 releases_looser Undervoltage a b p q g s = leb_implies _ _ _ _ (λ h. omega (arith, g.release, volts p q s))
 releases_looser Shutdown a b p q g s = same_implies (sym (chargers p q s))
 releases_looser Overvoltage a b p q g s = leb_implies _ _ _ _ (λ h. omega (arith, s.level, g.overdrop, volts p q s))
-releases_looser OvercurrentCharge a b p q g s = and_implies _ _ _ _ (same_implies (sym (ap not (chargers p q s)))) (same_implies (sym (ap (λ i. le_z i (pos 0)) (amps p q s))))
-releases_looser OvercurrentDischarge a b p q g s = and_implies _ _ _ _ (same_implies (sym (chargers p q s))) (same_implies (sym (ap (le_z (pos 0)) (amps p q s))))
+releases_looser OvercurrentCharge a b p q g s = and_implies _ _ _ _ (same_implies (sym (ap not (chargers p q s)))) (same_implies (sym (ap (λ i. int_le i (pos 0)) (amps p q s))))
+releases_looser OvercurrentDischarge a b p q g s = and_implies _ _ _ _ (same_implies (sym (chargers p q s))) (same_implies (sym (ap (int_le (pos 0)) (amps p q s))))
 releases_looser TooColdCharge a b p q g s = warm_later g.coldest g.hysteresis (cells p q s)
 releases_looser TooHotCharge a b p q g s = cool_later g.hottest g.hysteresis (cells p q s)
 releases_looser TooHotDischarge a b p q g s = cool_later g.hot g.hysteresis (cells p q s)
@@ -96,19 +98,7 @@ releases_looser PermanentHot a b p q g s = λ e. e
 releases_looser PermanentOvervoltage a b p q g s = λ e. e
 
 pub bit_below : (f : Fault) → bit_of f < 13
-bit_below Undervoltage = omega arith
-bit_below Shutdown = omega arith
-bit_below Overvoltage = omega arith
-bit_below OvercurrentCharge = omega arith
-bit_below OvercurrentDischarge = omega arith
-bit_below TooColdCharge = omega arith
-bit_below TooHotCharge = omega arith
-bit_below TooHotDischarge = omega arith
-bit_below DieHot = omega arith
-bit_below Full = omega arith
-bit_below Watchdog = omega arith
-bit_below PermanentHot = omega arith
-bit_below PermanentOvervoltage = omega arith
+bit_below f = grind arith
 
 enabled_tighter : (f : Fault) (a b : Limits) → Generous b a → Implies (is_enabled f b) (is_enabled f a)
 enabled_tighter f a b g e = eq-eqb _ 1 (g.enabled (bit_of f) (bit_below f) (eqb-true _ 1 e))

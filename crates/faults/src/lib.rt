@@ -29,13 +29,6 @@ mod tests {
         \x10\xcc\x10\x20\x03\x36\x10\x9a\x10\x90\x01\xd2\x0f\x36\x10\xc8\x00\xa0\x0f\x04\x10\
         \xd8\x0e\x6e\x0f\xd2\x0f\x18\x10\x0e\x0c\x0a\x08\xb5\x42\xff\x1f\xfc\x1a";
 
-    fn decoded(image: &[u8]) -> Result<Sheet, Fail> {
-        match Sheet::decode(image) {
-            Ok(sheet) => Ok(sheet),
-            Err(_) => Err(Fail::new("the image is refused")),
-        }
-    }
-
     const READING: Reading = Reading {
         elapsed: 100,
         voltage: 3700,
@@ -67,7 +60,7 @@ mod tests {
     // One 256th of a degree decides, below zero too.
     #[test]
     fn temperatures(rt: HostRuntime) -> Result<(), Fail> {
-        let sheet = decoded(&SAMPLE)?;
+        let sheet = Sheet::decode(&SAMPLE)?;
         assert!(rt; at_cell(&sheet, Fault::TooColdCharge, -1281).trips);
         assert!(rt; !at_cell(&sheet, Fault::TooColdCharge, -1280).trips);
         assert!(rt; at_cell(&sheet, Fault::TooColdCharge, -512).releases);
@@ -81,7 +74,7 @@ mod tests {
 
     #[test]
     fn voltages_and_currents(rt: HostRuntime) -> Result<(), Fail> {
-        let sheet = decoded(&SAMPLE)?;
+        let sheet = Sheet::decode(&SAMPLE)?;
         assert!(rt; at_voltage(&sheet, Fault::Overvoltage, 4301).trips);
         assert!(rt; !at_voltage(&sheet, Fault::Overvoltage, 4300).trips);
         assert!(rt; at_voltage(&sheet, Fault::Overvoltage, 4200).releases);
@@ -113,7 +106,7 @@ mod tests {
         let mut image = SAMPLE;
         image[112] = 0xfb;
         image[114] = 0xf8;
-        assert!(rt; !at_voltage(&decoded(&image)?, Fault::Overvoltage, 5000).trips);
+        assert!(rt; !at_voltage(&Sheet::decode(&image)?, Fault::Overvoltage, 5000).trips);
         Ok(())
     }
 }
