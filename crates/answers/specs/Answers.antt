@@ -1,9 +1,21 @@
 -- The bytes of an answer, and its line.
-use Rattle.std.specs.Prelude.{ℕ, ◌+◌, ◌*◌, ◌/◌, ◌%◌, cond, List, [], ◌∷◌, ◌++◌, decimal, slice_index}
+use Rattle.std.specs.Prelude.{ℕ, ◌+◌, ◌*◌, ◌/◌, ◌%◌, cond, List, [], ◌∷◌, ◌++◌, Option, None, Some, ℤ, decimal, slice_index}
 use Rattle.std.proofs.Common.{of_z, to_z}
 use Rattle.std.specs.Int.{w8}
 use Rattle.std.specs.Fmt.{signed_decimal}
+use Rattle.calls.specs.declared.rejection.Rejection.{Rejection}
+use Rattle.calls.specs.Rejections.{number_of as number_of_refusal}
+use Rattle.reading.specs.Regions.{reached_of, number_of}
 use Rattle.answers.specs.declared.answer.Answer.{Answer}
+
+-- the number of a refusal, or 0
+abbrev pub number_in : Option Rejection → ℕ
+number_in None = 0
+number_in (Some r) = number_of_refusal r
+
+-- the number of the region, from -4, TooCold, to 4, TooHot
+abbrev pub region_in : Answer → ℤ
+region_in a = number_of (reached_of a.region)
 
 -- the switches that are on: D0 charge, D1 discharge
 abbrev pub switches_of : Answer → ℕ
@@ -15,11 +27,11 @@ pair w = w % 256 ∷ w / 256 ∷ []
 
 -- refusal, switches, faults, current, voltage, region in two's complement, a zero, level
 abbrev pub bytes_of : Answer → List ℕ
-bytes_of a = a.refusal ∷ switches_of a ∷ pair a.faults ++ (pair a.current ++ (pair a.voltage ++ (of_z w8 a.region ∷ 0 ∷ pair a.level)))
+bytes_of a = number_in a.refusal ∷ switches_of a ∷ pair a.faults ++ (pair a.current ++ (pair a.voltage ++ (of_z w8 (region_in a) ∷ 0 ∷ pair a.level)))
 
 -- the numbers of the answer in decimal, a space between two; a negative region has a minus sign
 abbrev pub line_of : Answer → List ℕ
-line_of a = decimal a.refusal ++ (32 ∷ decimal (switches_of a) ++ (32 ∷ decimal a.faults ++ (32 ∷ decimal a.current ++ (32 ∷ decimal a.voltage ++ (32 ∷ signed_decimal a.region ++ (32 ∷ decimal a.level))))))
+line_of a = decimal (number_in a.refusal) ++ (32 ∷ decimal (switches_of a) ++ (32 ∷ decimal a.faults ++ (32 ∷ decimal a.current ++ (32 ∷ decimal a.voltage ++ (32 ∷ signed_decimal (region_in a) ++ (32 ∷ decimal a.level))))))
 
 -- the word at a place
 abbrev pub word_at : List ℕ → ℕ → ℕ

@@ -1,15 +1,15 @@
 // An answer, its bytes and its line.
-ghost use Rattle.std.specs.Prelude.{◌≡◌, ◌/◌, ◌%◌, Some};
-ghost use Rattle.std.specs.Int.{w8};
-ghost use Rattle.std.proofs.Common.{to_z, of_z};
-ghost use Rattle.answers.specs.Answers.{switches_of, bytes_of, line_of, line_at};
+ghost use Rattle.std.specs.Prelude.{◌≡◌, Some};
+ghost use Rattle.answers.specs.Answers.{number_in, switches_of, pair, bytes_of, line_of, line_at};
 
+use calls::Rejection;
+use reading::Region;
 use std::fmt;
 
-#[derive(Clone, Copy)]
+#[derive(Clone, Copy, Debug, PartialEq, Eq)]
 pub struct Answer {
-    // the number of the refusal, or 0
-    pub refusal: u8,
+    // why the record was refused, if it was
+    pub refusal: Option<Rejection>,
     // the switches that are on
     pub charge: bool,
     pub discharge: bool,
@@ -18,25 +18,27 @@ pub struct Answer {
     // what the charger may give, in mA and mV
     pub current: u16,
     pub voltage: u16,
-    // from -4, TooCold, to 4, TooHot
-    pub region: i8,
+    // the temperature region of the cell
+    pub region: Region,
     // the over-voltage level in force, in mV
     pub level: u16,
 }
 
-fn low(word: u16) -> u8
-    ensures { result ≡ word % 256 }
+// The bytes of a word, the low one first.
+fn low_first(word: u16) -> [u8; 2]
+    ensures { result ≡ pair word }
 {
-    (word % 256) as u8
-}
-
-fn high(word: u16) -> u8
-    ensures { result ≡ word / 256 }
-{
-    (word >> 8) as u8
+    word.to_le_bytes()
 }
 
 impl Answer {
+    // The number of the refusal, or 0.
+    fn refusal_number(&self) -> u8
+        ensures { result ≡ number_in self.now.refusal }
+    {
+        self.refusal.map_or(0, u8::from)
+    }
+
     // Both switches in one byte: D0 charge, D1 discharge.
     fn switches(&self) -> u8
         ensures { result ≡ switches_of self.now }
@@ -44,33 +46,30 @@ impl Answer {
         u8::from(self.charge) + 2 * u8::from(self.discharge)
     }
 
-    // Words have the low byte first. The region is in two's complement, from which it is read back as itself.
-    fn lay_out(&self) -> [u8; 12]
-        ensures value { result ≡ bytes_of self.now }
-        ensures region { to_z w8 (of_z w8 self.now.region) ≡ self.now.region }
-    {
-        [
-            self.refusal,
-            self.switches(),
-            low(self.faults),
-            high(self.faults),
-            low(self.current),
-            high(self.current),
-            low(self.voltage),
-            high(self.voltage),
-            self.region.cast_unsigned(),
-            0,
-            low(self.level),
-            high(self.level),
-        ]
-    }
-
-    // The twelve bytes of the answer. The printed line tells the same numbers.
+    // The twelve bytes of the answer. Words have the low byte first, and the region is in two's complement. The printed
+    // line tells the same numbers.
     pub fn bytes(&self) -> [u8; 12]
         ensures value { result ≡ bytes_of self.now }
         ensures told { line_at result ≡ line_of self.now }
     {
-        self.lay_out()
+        let [faults_low, faults_high] = low_first(self.faults);
+        let [current_low, current_high] = low_first(self.current);
+        let [voltage_low, voltage_high] = low_first(self.voltage);
+        let [level_low, level_high] = low_first(self.level);
+        [
+            self.refusal_number(),
+            self.switches(),
+            faults_low,
+            faults_high,
+            current_low,
+            current_high,
+            voltage_low,
+            voltage_high,
+            i8::from(self.region).cast_unsigned(),
+            0,
+            level_low,
+            level_high,
+        ]
     }
 }
 
@@ -78,16 +77,16 @@ impl fmt::Display for Answer {
     ghost output = { λ a. Some (line_of a) };
 
     fn fmt<W: fmt::Write>(&self, f: &mut fmt::Formatter<W>) -> fmt::Result {
-        let refusal = self.refusal;
-        let switches = self.switches();
-        let faults = self.faults;
-        let current = self.current;
-        let voltage = self.voltage;
-        let region = self.region;
-        let level = self.level;
         write!(
             f,
-            "{refusal} {switches} {faults} {current} {voltage} {region} {level}"
+            "{} {} {} {} {} {} {}",
+            self.refusal_number(),
+            self.switches(),
+            self.faults,
+            self.current,
+            self.voltage,
+            i8::from(self.region),
+            self.level
         )
     }
 }
@@ -100,13 +99,13 @@ mod tests {
     #[test]
     fn bytes_of_an_answer(rt: HostRuntime) {
         let answer = Answer {
-            refusal: 7,
+            refusal: Some(Rejection::Letter),
             charge: false,
             discharge: true,
             faults: 0x1203,
             current: 1000,
             voltage: 4200,
-            region: -2,
+            region: Region::Cold1,
             level: 4300,
         };
         let bytes = answer.bytes();
