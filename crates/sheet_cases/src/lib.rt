@@ -3,12 +3,12 @@
 
 #[cfg(test)]
 mod tests {
-    use sheet::{Sheet, Verdict};
+    use sheet::{IMAGE, Sheet, Verdict};
     use std::process::Abort;
     use std::test::Fail;
 
     // The contents; the levels; the degrees; the rows; the steps, the delays and the sum.
-    const SAMPLE: &[u8; 116] =
+    const SAMPLE: &[u8; IMAGE] =
         b"\x01\x05\x01\x16\x16\x00\x02\x0c\x2c\x00\x03\x2a\x38\x00\x04\x0c\x62\x00\x05\x04\x6e\x00\
         \xf0\x0a\xb8\x0b\xc4\x09\x64\x00\x94\x11\xd0\x07\xa0\x0f\x36\x10\x64\x00\x3c\x00\x1f\x08\
         \xfb\x00\x05\x0f\x23\x2d\x32\x37\x41\x55\x4b\x03\
@@ -136,62 +136,55 @@ mod tests {
 4 23 22 5001 3 1
 8 45 20 111 3 2";
 
-    fn put(image: &mut [u8; 116], at: usize, word: u16) {
-        if at < 115 {
-            let [low, high] = word.to_le_bytes();
-            image[at] = low;
-            image[at + 1] = high;
+    fn put(image: &mut [u8; IMAGE], at: usize, word: u16) {
+        if at < IMAGE - 1 {
+            image[at..at + 2].copy_from_slice(&word.to_le_bytes());
         }
     }
 
-    fn sum(image: &[u8; 116]) -> u16 {
-        let mut sum: u16 = 0;
-        for b in &image[0..114] {
-            sum = sum.wrapping_add(*b as u16);
-        }
-        sum
+    fn sum(image: &[u8; IMAGE]) -> u16 {
+        image[..114]
+            .iter()
+            .fold(0, |sum: u16, byte| sum.wrapping_add(u16::from(*byte)))
     }
 
     fn verdict(image: &[u8]) -> Verdict {
-        Verdict::of(&Sheet::decode(image))
+        Verdict::from(&Sheet::decode(image))
     }
 
     fn expect(rt: &impl Abort, image: &[u8], number: u8, place: u8) {
         let v = verdict(image);
-        assert_eq!(rt; v.number, number);
-        assert_eq!(rt; v.place, place);
+        assert_eq!(rt; v.number(), number);
+        assert_eq!(rt; v.place(), place);
     }
 
     fn numbers(rt: &impl Abort, line: &str) -> Result<[u16; 6], Fail> {
-        let mut numbers = [0u16; 6];
-        let mut at = 0;
-        for word in line.split(' ') {
-            assert!(rt; at < 6);
-            numbers[at] = word.parse::<u16>()?;
-            at += 1;
+        let mut numbers = [0; 6];
+        let mut words = line.split(' ');
+        for number in &mut numbers {
+            *number = words.next().expect(rt, "six words").parse()?;
         }
+        assert!(rt; words.next().is_none());
         Ok(numbers)
     }
 
     fn try_case(rt: &impl Abort, line: &str) -> Result<(), Fail> {
         let [at, word, next, other, number, place] = numbers(rt, line)?;
         let mut image = *SAMPLE;
-        put(&mut image, at as usize, word);
-        put(&mut image, next as usize, other);
+        put(&mut image, usize::from(at), word);
+        put(&mut image, usize::from(next), other);
         let total = sum(&image);
         put(&mut image, 114, total);
         let v = verdict(&image);
-        assert_eq!(rt; v.number as u16, number, "{line}");
-        assert_eq!(rt; v.place as u16, place, "{line}");
+        assert_eq!(rt; u16::from(v.number()), number, "{line}");
+        assert_eq!(rt; u16::from(v.place()), place, "{line}");
         Ok(())
     }
 
     #[test]
     fn every_rule_on_both_sides(rt: HostRuntime) -> Result<(), Fail> {
-        for line in CASES.lines() {
-            if !line.starts_with('#') {
-                try_case(&rt, line)?;
-            }
+        for line in CASES.lines().filter(|line| !line.starts_with('#')) {
+            try_case(&rt, line)?;
         }
         Ok(())
     }
@@ -213,9 +206,7 @@ mod tests {
 
     #[test]
     fn the_sample_is_written_back(rt: HostRuntime) {
-        match Sheet::decode(SAMPLE) {
-            Ok(sheet) => assert!(rt; sheet.encode() == *SAMPLE),
-            Err(_) => assert!(rt; false),
-        }
+        let sheet = Sheet::decode(SAMPLE).expect(&rt, "the sample is a sheet");
+        assert_eq!(rt; sheet.encode(), *SAMPLE);
     }
 }
