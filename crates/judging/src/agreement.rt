@@ -85,13 +85,11 @@ pub(crate) fn check_agreement(l: &Limits) -> Result<(), Refusal>
         &l.degrees.edges,
     )));
     let overdrop = l.levels.overdrop;
-    let broken = |place: u8, row: &Row|
+    let of_row = |place: u8, row: &Row|
         requires { place < 200 }
     { first_broken(&row_conflicts(overdrop, place, row)) };
-    let rows = first_broken_row(broken, &l.rows);
+    let rows = first_broken_row(of_row, &l.rows);
     let steps = first_broken(&step_conflicts(&l.steps));
-    front
-        .or(rows)
-        .or(steps)
-        .map_or(Ok(()), |place| Err(Refusal::Conflict(place)))
+    let broken = front.or(rows).or(steps);
+    broken.map_or(Ok(()), |place| Err(Refusal::Conflict(place)))
 }

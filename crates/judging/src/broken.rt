@@ -8,10 +8,5 @@ use layout::Rule;
 pub(crate) fn first_broken(rules: &[Rule]) -> Option<u8>
     ensures { result ≡ first_broken rules.now }
 {
-    for rule in rules {
-        if !rule.kept {
-            return Some(rule.place);
-        }
-    }
-    None
+    rules.iter().find(|rule| !rule.kept).map(|rule| rule.place)
 }

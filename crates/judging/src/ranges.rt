@@ -12,6 +12,8 @@ const VOLTAGE: u16 = 5000;
 
 const CURRENT: u16 = 20000;
 
+// Here and below a table of rules stays written out, as in the specs: each rule speaks of a field by name or has a bound of its own,
+// and a closure over the places would hide which.
 fn level_ranges(l: &Levels) -> [Rule; 11]
     ensures { result ≡ level_ranges l.now }
 {
@@ -145,13 +147,11 @@ pub(crate) fn check_ranges(l: &Limits) -> Result<(), Refusal>
     ensures { result ≡ ranges l.now }
 {
     let front = first_broken(&level_ranges(&l.levels)).or(first_broken(&degree_ranges(&l.degrees)));
-    let broken = |place: u8, row: &Row|
+    let of_row = |place: u8, row: &Row|
         requires { place < 200 }
     { first_broken(&row_ranges(place, row)) };
-    let rows = first_broken_row(broken, &l.rows);
+    let rows = first_broken_row(of_row, &l.rows);
     let back = first_broken(&step_ranges(&l.steps)).or(first_broken(&timing_ranges(&l.timing)));
-    front
-        .or(rows)
-        .or(back)
-        .map_or(Ok(()), |place| Err(Refusal::Range(place)))
+    let broken = front.or(rows).or(back);
+    broken.map_or(Ok(()), |place| Err(Refusal::Range(place)))
 }

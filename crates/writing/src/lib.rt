@@ -14,13 +14,6 @@ const CONTENTS: [u8; 22] = [
     1, 5, 1, 22, 22, 0, 2, 12, 44, 0, 3, 42, 56, 0, 4, 12, 98, 0, 5, 4, 110, 0,
 ];
 
-// The two bytes of a word, the low one first.
-fn word_bytes(word: u16) -> [u8; 2]
-    ensures { result ≡ pair word }
-{
-    word.to_le_bytes()
-}
-
 fn level_words(l: &Levels) -> [u16; 11]
     ensures { flat_map pair result ≡ level_bytes l.now }
 {
@@ -39,26 +32,6 @@ fn level_words(l: &Levels) -> [u16; 11]
     ]
 }
 
-fn degree_bytes(d: &Degrees) -> [u8; 12]
-    ensures { result ≡ degree_bytes d.now }
-{
-    let [a, b, c, e, f, g, h, i] = d.edges;
-    [
-        a.cast_unsigned(),
-        b.cast_unsigned(),
-        c.cast_unsigned(),
-        e.cast_unsigned(),
-        f.cast_unsigned(),
-        g.cast_unsigned(),
-        h.cast_unsigned(),
-        i.cast_unsigned(),
-        d.hot.cast_unsigned(),
-        d.die.cast_unsigned(),
-        d.permanent.cast_unsigned(),
-        d.hysteresis,
-    ]
-}
-
 // Writes a part at its place; what stands before it stays.
 fn put(out: &mut [u8], at: usize, part: &[u8])
     requires { at + length part.now ≤ length out.old }
@@ -73,20 +46,30 @@ fn put_words(out: &mut [u8], at: usize, words: &[u16])
     requires { at + 2 * length words.now ≤ length out.old }
     ensures { take (at + 2 * length words.now) out.new ≡ take at out.old ++ flat_map pair words.now }
 {
-    let mut place = at;
-    for word in words {
-        put(out, place, &word_bytes(*word));
-        place += 2;
+    for (i, word) in words.iter().enumerate() {
+        put(out, at + 2 * i, &word.to_le_bytes());
     }
 }
 
+fn put_degrees(out: &mut [u8; IMAGE], d: &Degrees)
+    ensures { take 56 out.new ≡ take 44 out.old ++ degree_bytes d.now }
+{
+    put(out, 44, &d.edges.map(i8::cast_unsigned));
+    let others = [
+        d.hot.cast_unsigned(),
+        d.die.cast_unsigned(),
+        d.permanent.cast_unsigned(),
+        d.hysteresis,
+    ];
+    put(out, 52, &others);
+}
+
+// The seven rows stand six bytes apart.
 fn put_rows(out: &mut [u8; IMAGE], rows: &[Row; 7])
     ensures { take 98 out.new ≡ take 56 out.old ++ flat_map row_bytes rows.now }
 {
-    let mut at = 56;
-    for row in rows {
-        put_words(out, at, &[row.current, row.voltage, row.level]);
-        at += 6;
+    for (i, row) in rows.iter().enumerate() {
+        put_words(out, 56 + 6 * i, &[row.current, row.voltage, row.level]);
     }
 }
 
@@ -102,7 +85,7 @@ fn fill_body(out: &mut [u8; IMAGE], l: &Limits)
 {
     put(out, 0, &CONTENTS);
     put_words(out, 22, &level_words(&l.levels));
-    put(out, 44, &degree_bytes(&l.degrees));
+    put_degrees(out, &l.degrees);
     put_rows(out, &l.rows);
     put_steps(out, &l.steps);
     put_words(out, 110, &[l.timing.delaycfg, l.timing.enabled]);
@@ -113,7 +96,7 @@ fn fill(out: &mut [u8; IMAGE], l: &Limits)
 {
     fill_body(out, l);
     let sum = body_sum(out);
-    put(out, 114, &word_bytes(sum));
+    put(out, 114, &sum.to_le_bytes());
 }
 
 // The image of the limits of a sheet, which is read as these limits again.

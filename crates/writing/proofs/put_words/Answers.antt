@@ -1,19 +1,22 @@
-use Rattle.std.proofs.Common.{◌≡◌, ◌+◌, ◌*◌, ◌++◌, length, get_or, take, sym, refl, ap, ◌∙◌, arith}
+use Rattle.std.proofs.Common.{◌≡◌, ◌+◌, ◌*◌, ◌++◌, length, get_or, take, sym, ap, ◌∙◌, arith, rules}
 use Rattle.std.specs.List.{flat_map}
 use Rattle.std.proofs.lemmas.List.{flat_map_more, take_more, take_all}
 use Rattle.layout.specs.Encoded.{pair}
 use Rattle.writing.proofs.Growing.{grow}
 use Rattle.writing.proofs.put_words.Goals as goal
 
-pub loop-word-preserved : goal.loop-word-preserved
-loop-word-preserved c =
-    let more = take_more c.args.words.now c.loop-word.word-index 0 (omega arith) in
-    let join = flat_map_more pair (take c.args.at c.args.out.now) (take c.loop-word.word-index c.args.words.now) (get_or c.args.words.now c.loop-word.word-index 0) in
-    let next = grow c.loop-word.place 2 (c.loop-word.place + 2) c.put.new.out c.loop-word.out c.word_bytes.result _ _ c.put.ensures (ap length c.word_bytes.ensures) refl c.word_bytes.ensures c.loop-word.invariant.1 in
-    (omega arith, next ∙ join ∙ ap (λ ws. take c.args.at c.args.out.now ++ flat_map pair ws) (sym more))
+pub loop-i-preserved : goal.loop-i-preserved
+loop-i-preserved c =
+    let i = c.loop-i.i in
+    let words = c.args.words.now in
+    let bytes : c.to_le_bytes.result ≡ pair (get_or words i 0) = search rules in
+    let more = take_more words i 0 (omega arith) in
+    let join = flat_map_more pair (take c.args.at c.args.out.now) (take i words) (get_or words i 0) in
+    let next = grow (c.args.at + 2 * i) 2 (c.args.at + 2 * (i + 1)) c.put.new.out c.loop-i.out c.to_le_bytes.result _ _ c.put.ensures (ap length bytes) (omega arith) bytes c.loop-i.invariant in
+    next ∙ join ∙ ap (λ ws. take c.args.at c.args.out.now ++ flat_map pair ws) (sym more)
 
 pub returns : goal.returns
 returns c =
-    let place : c.loop-word.place ≡ c.args.at + 2 * length c.args.words.now = omega arith in
-    let all = take_all c.loop-word.word-index c.args.words.now (omega arith) in
+    let end : c.loop-i.i ≡ length c.args.words.now = omega arith in
+    let all = take_all c.loop-i.i c.args.words.now (omega arith) in
     cc

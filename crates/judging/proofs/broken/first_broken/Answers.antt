@@ -1,13 +1,13 @@
-use Rattle.std.proofs.Common.{false, arith}
-use Rattle.std.proofs.lemmas.List.{at_drop_more, at_drop_all}
-use Rattle.layout.specs.Rules.{first_broken}
+use Rattle.std.proofs.Common.{◌≡◌, ap, ◌∙◌, rules, tests}
+use Rattle.std.specs.Prelude.{not}
+use Rattle.std.specs.Option.{option_map}
+use Rattle.std.proofs.lemmas.Iterator.{YieldsList-from_slice}
+use Rattle.std.proofs.lemmas.Iterator.Search.{find_from_yields_List}
+use Rattle.judging.proofs.Breaking.{found}
 use Rattle.judging.proofs.broken.first_broken.Goals as goal
 
-pub returns-then-not-rule : goal.returns-then-not-rule
-returns-then-not-rule c = grind (arith, at_drop_more first_broken c.args.rules.now c.loop-rule.rule-index (record { place = 0; kept = false }) (omega arith))
-
-pub loop-rule-preserved : goal.loop-rule-preserved
-loop-rule-preserved c = grind (arith, at_drop_more first_broken c.args.rules.now c.loop-rule.rule-index (record { place = 0; kept = false }) (omega arith))
-
 pub returns : goal.returns
-returns c = grind (arith, at_drop_all first_broken c.args.rules.now c.loop-rule.rule-index (omega arith))
+returns c =
+    let e = find_from_yields_List (λ r. not r.kept) _ _ c.find.result c.find.ensures.ran (YieldsList-from_slice c.args.rules.now cc) (λ x b q k. search (rules, tests)) in
+    let f : c.map.result ≡ option_map (λ r. r.place) (option_map (λ r. r.now) c.find.result) = search rules in
+    f ∙ ap (option_map (λ r. r.place)) e ∙ found c.args.rules.now
