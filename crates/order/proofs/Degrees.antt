@@ -1,11 +1,13 @@
 -- Nothing changes between two whole degrees, so what holds at each of them holds at every temperature.
-use Rattle.std.proofs.Common.{◌≡◌, ◌+◌, ◌/◌, cond, List, [], ◌∷◌, ℤ, pos, negsuc, ◌*ℤ◌, ◌≤ℤ◌, sym, refl, ◌∙◌, arith}
+use Rattle.std.proofs.Common.{◌≡◌, ℕ, ◌+◌, ◌-◌, ◌/◌, ◌<◌, cond, List, [], ◌∷◌, ℤ, pos, negsuc, ◌-ℤ◌, ◌*ℤ◌, ◌≤ℤ◌, sym, refl, ◌∙◌, arith}
 use lib.Signed.{le_z}
 use Rattle.std.proofs.lemmas.Int.{ints}
 use Rattle.std.proofs.lemmas.Bool.Decides.{nat_tests}
 use Rattle.sheet.specs.declared.limits.Limits.{Limits}
 use Rattle.reading.specs.Regions.{reached_by}
 use Rattle.order.specs.Generous.{NoLowerAt, Generous}
+use Rattle.order.specs.Laws.{Follows}
+use Rattle.delays.proofs.Rising.{no_shorter}
 use Rattle.reading.specs.Ranges.{Signed16}
 
 -- the whole degree at or below a temperature
@@ -40,6 +42,27 @@ unfolding whole
 whole_high (pos n) h = grind (arith, ints)
 whole_high (negsuc n) h = grind (arith, ints)
 
+-- the whole degrees, counted from -128 on
+pub place : ℤ → ℕ
+place (pos n) = n + 128
+place (negsuc n) = 127 - n
+
+pub placed : (d : ℤ) → negsuc 127 ≤ℤ d → pos (place d) -ℤ pos 128 ≡ d
+unfolding place
+placed (pos n) h = grind (arith, ints)
+placed (negsuc n) h = grind (arith, ints)
+
+pub place_small : (d : ℤ) → d ≤ℤ pos 127 → place d < 256
+unfolding place
+place_small (pos n) h = grind (arith, ints)
+place_small (negsuc n) h = grind (arith, ints)
+
+pub low : (k : ℕ) → k < 256 → negsuc 127 ≤ℤ (pos k -ℤ pos 128)
+low k h = grind (arith, ints)
+
+pub high : (k : ℕ) → k < 256 → (pos k -ℤ pos 128) ≤ℤ pos 127
+high k h = grind (arith, ints)
+
 pub everywhere : (b a : Limits) → Generous b a → (t : ℤ) → Signed16 t → NoLowerAt b a t
 everywhere b a g t h =
     let z = g.zones (whole t) (whole_low t h.low) (whole_high t h.high) in
@@ -50,3 +73,6 @@ everywhere b a g t h =
       voltage = rw (p, q) z.voltage;
       level = rw (p, q) z.level;
     }
+
+pub follows : (b a : Limits) → Generous b a → Follows b a
+follows b a g = record { zones = everywhere b a g; delays = λ t. no_shorter t _ _ (g.settings t) }

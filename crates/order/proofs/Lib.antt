@@ -1,4 +1,4 @@
 pub mod Below
 pub mod Degrees
-pub mod Deciding
 pub mod Ordering
+pub mod Signed

@@ -3,6 +3,7 @@ use Rattle.std.proofs.Common.{ℤ, ◌≤ℤ◌, le_trans, le_refl, arith}
 use Rattle.std.proofs.lemmas.Int.{ints}
 use Rattle.sheet.specs.declared.limits.Limits.{Limits}
 use Rattle.order.specs.Generous.{Generous}
+use Rattle.order.specs.Laws.{Ordered}
 
 same : (z : ℤ) → z ≤ℤ z
 same z = omega (arith, ints)
@@ -66,3 +67,6 @@ transitive b a c g h = record {
       record { current = le_trans y.current x.current; voltage = le_trans y.voltage x.voltage; level = le_trans y.level x.level };
   enabled = λ k l e. h.enabled k l (g.enabled k l e);
 }
+
+pub ordered : (b a : Limits) → Ordered b a
+ordered b a = record { reflexive = reflexive a; transitive = λ g e h. transitive b a e g h }

@@ -1,3 +1,3 @@
 pub mod Generous
-pub mod Tests
+pub mod Parts
 pub mod Laws

@@ -1,79 +1,56 @@
-// The order of single fields.
-ghost use Rattle.std.specs.Prelude.{◌≡◌, ◌/◌, ◌%◌, ◌^◌, ◌<◌, ◌==◌};
-ghost use Rattle.order.specs.Tests.{levels_no_higher, levels_no_lower, degrees_test, step_test, steps_test, precharge_test, enabled_test, enabled_tests};
+// The order of single fields. Everywhere b is the loose sheet and a the tight one: each test looks at another part of both, so a struct of the pair
+// would be made only to be taken apart.
+ghost use Rattle.std.specs.Prelude.{◌≡◌, ◌==◌, ◌/◌, ◌%◌, ◌^◌, ◌<◌, ◌↔◌, IsTrue};
+ghost use Rattle.order.specs.Parts.{AreLevelsNoHigher, AreLevelsNoLower, AreDegreesInOrder, IsPrechargeInOrder, AreStepsInOrder, AreFaultsInOrder};
 
 use sheet::{Degrees, Levels, Sheet, Steps};
 
 pub(crate) fn levels_no_higher(b: &Levels, a: &Levels) -> bool
-    ensures { result ≡ levels_no_higher b.now a.now }
+    ensures { IsTrue result ↔ AreLevelsNoHigher b.now a.now }
 {
-    let voltages = (b.trip <= a.trip) & ((b.release <= a.release) & (b.shutdown <= a.shutdown));
-    let drops = (b.overdrop <= a.overdrop)
-        & ((b.fulldrop <= a.fulldrop) & (b.fullcurrent <= a.fullcurrent));
-    voltages & drops
+    let voltages = b.trip <= a.trip && b.release <= a.release && b.shutdown <= a.shutdown;
+    let drops = b.overdrop <= a.overdrop && b.fulldrop <= a.fulldrop;
+    voltages && drops && b.fullcurrent <= a.fullcurrent
 }
 
 pub(crate) fn levels_no_lower(b: &Levels, a: &Levels) -> bool
-    ensures { result ≡ levels_no_lower b.now a.now }
+    ensures { IsTrue result ↔ AreLevelsNoLower b.now a.now }
 {
-    let voltages = (a.permanent <= b.permanent) & (a.full <= b.full);
-    let currents = (a.charging <= b.charging) & (a.discharging <= b.discharging);
-    voltages & currents
+    let voltages = a.permanent <= b.permanent && a.full <= b.full;
+    let currents = a.charging <= b.charging && a.discharging <= b.discharging;
+    voltages && currents
 }
 
 pub(crate) fn degrees_in_order(b: &Degrees, a: &Degrees) -> bool
-    ensures { result ≡ degrees_test b.now a.now }
+    ensures { IsTrue result ↔ AreDegreesInOrder b.now a.now }
 {
-    let edges = (b.edges[0] <= a.edges[0]) & (a.edges[7] <= b.edges[7]);
-    let levels = (a.hot <= b.hot) & ((a.die <= b.die) & (a.permanent <= b.permanent));
-    edges & (levels & (b.hysteresis <= a.hysteresis))
+    let edges = b.edges[0] <= a.edges[0] && a.edges[7] <= b.edges[7];
+    let limits = a.hot <= b.hot && a.die <= b.die && a.permanent <= b.permanent;
+    edges && limits && b.hysteresis <= a.hysteresis
 }
 
 pub(crate) fn precharge_in_order(b: &Sheet, a: &Sheet) -> bool
-    ensures { result ≡ precharge_test b.now.limits a.now.limits }
+    ensures { IsTrue result ↔ IsPrechargeInOrder b.now.limits a.now.limits }
 {
-    (b.pre_qual_volt() <= a.pre_qual_volt()) & (a.precharge_most() <= b.precharge_most())
-}
-
-fn step_in_order(b: &Steps, a: &Steps, k: usize) -> bool
-    requires { k < 4 }
-    ensures { result ≡ step_test b.now a.now k }
-{
-    (a.voltages[k] <= b.voltages[k]) & (a.ratios[k] <= b.ratios[k])
+    b.pre_qual_volt() <= a.pre_qual_volt() && a.precharge_most() <= b.precharge_most()
 }
 
 pub(crate) fn steps_in_order(b: &Steps, a: &Steps) -> bool
-    ensures { result ≡ steps_test b.now a.now }
+    ensures { IsTrue result ↔ AreStepsInOrder b.now a.now }
 {
-    let mut all = true;
-    for k in 0..4 {
-        all = step_in_order(b, a, k) & all;
-    }
-    all
+    (0..4).all(|k| a.voltages[k] <= b.voltages[k] && a.ratios[k] <= b.ratios[k])
 }
 
-// Whether bit k is set.
-fn bit(word: u16, k: u32) -> bool
-    requires { k < 13 }
-    ensures { result ≡ (word / 2 ^ k % 2 == 1) }
+fn is_enabled(word: u16, fault: u32) -> bool
+    requires { fault < 13 }
+    ensures { result ≡ (word / 2 ^ fault % 2 == 1) }
 {
-    (word >> k) % 2 == 1
-}
-
-fn enabled_in_order(b: u16, a: u16, k: u32) -> bool
-    requires { k < 13 }
-    ensures { result ≡ enabled_test b a k }
-{
-    !bit(b, k) | bit(a, k)
+    (word >> fault) % 2 == 1
 }
 
 // Whether each fault that the enable word b enables is enabled by a.
 pub(crate) fn faults_in_order(b: u16, a: u16) -> bool
-    ensures { result ≡ enabled_tests b a }
+    ensures { IsTrue result ↔ AreFaultsInOrder b a }
 {
-    let mut all = true;
-    for k in 0..13 {
-        all = enabled_in_order(b, a, k) & all;
-    }
-    all
+    (0..13).all(|fault| !is_enabled(b, fault) || is_enabled(a, fault))
 }

@@ -1,4 +1,4 @@
-ghost use Rattle.std.specs.Prelude.{◌≡◌, true, Decides};
+ghost use Rattle.std.specs.Prelude.{◌↔◌, IsTrue};
 ghost use Rattle.order.specs.Generous.{Generous};
 ghost use Rattle.order.specs.Laws.{Ordered, Follows};
 
@@ -9,26 +9,20 @@ use super::fields::{
 use super::zones::zones_in_order;
 use sheet::Sheet;
 
-fn in_order(b: &Sheet, a: &Sheet) -> bool
-    ensures decides { Decides result (Generous b.now.limits a.now.limits) }
+// Whether sheet b is at least as generous as sheet a.
+#[tactic(auto, using(crate::proofs::Ordering::ordered))]
+pub fn at_least_as_generous(b: &Sheet, a: &Sheet) -> bool
+    ensures decides { IsTrue result ↔ Generous b.now.limits a.now.limits }
     ensures ordered { Ordered b.now.limits a.now.limits }
-    ensures follows { result ≡ true → Follows b.now.limits a.now.limits }
+    ensures follows { IsTrue result → Follows b.now.limits a.now.limits }
 {
     let (loose, tight) = (&b.limits, &a.limits);
-    let levels = levels_no_higher(&loose.levels, &tight.levels)
-        & levels_no_lower(&loose.levels, &tight.levels);
-    let charging = precharge_in_order(b, a) & steps_in_order(&loose.steps, &tight.steps);
-    let faults = faults_in_order(loose.timing.enabled, tight.timing.enabled)
-        & delays::sets_no_lower(tight.timing.delaycfg, loose.timing.delaycfg);
-    let degrees = degrees_in_order(&loose.degrees, &tight.degrees) & zones_in_order(b, a);
-    (levels & charging) & (faults & degrees)
-}
-
-// Whether sheet b is at least as generous as sheet a.
-pub fn at_least_as_generous(b: &Sheet, a: &Sheet) -> bool
-    ensures decides { Decides result (Generous b.now.limits a.now.limits) }
-    ensures ordered { Ordered b.now.limits a.now.limits }
-    ensures follows { result ≡ true → Follows b.now.limits a.now.limits }
-{
-    in_order(b, a)
+    levels_no_higher(&loose.levels, &tight.levels)
+        && levels_no_lower(&loose.levels, &tight.levels)
+        && precharge_in_order(b, a)
+        && steps_in_order(&loose.steps, &tight.steps)
+        && faults_in_order(loose.timing.enabled, tight.timing.enabled)
+        && delays::sets_no_lower(tight.timing.delaycfg, loose.timing.delaycfg)
+        && degrees_in_order(&loose.degrees, &tight.degrees)
+        && zones_in_order(b, a)
 }

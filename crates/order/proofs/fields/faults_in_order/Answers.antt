@@ -1,9 +1,9 @@
-use Rattle.order.specs.Tests.{enabled_test}
-use Rattle.order.proofs.Below.{below_none, below_more}
+use Rattle.std.proofs.Common.{◌≡◌, ◌/◌, ◌%◌, ◌^◌, arith, rules}
+use Rattle.order.proofs.Below.{decides_below}
 use Rattle.order.proofs.fields.faults_in_order.Goals as goal
 
-pub loop-k-init : goal.loop-k-init
-loop-k-init c = below_none (enabled_test c.args.b c.args.a)
-
-pub loop-k-preserved : goal.loop-k-preserved
-loop-k-preserved c = below_more (enabled_test c.args.b c.args.a) c.loop-k.k c.enabled_in_order-all.result c.loop-k.all c.enabled_in_order-all.ensures c.loop-k.invariant
+pub returns : goal.returns
+returns c =
+    let b = c.args.b in
+    let a = c.args.a in
+    decides_below _ _ (λ k. b / 2 ^ k % 2 ≡ 1 → a / 2 ^ k % 2 ≡ 1) 13 (λ x r f' k. search rules) (λ k r l called. search rules) _ _ (omega arith) (omega arith) c.all.ensures.runs
