@@ -1,5 +1,5 @@
 -- The usual stack of a sheet that is at least as generous never gives less.
-use Rattle.std.proofs.Common.{◌≡◌, ℕ, zero, suc, ◌<◌, ◌≤◌, cond, leb, List, [], ◌∷◌, length, get_or, le_trans, le_refl, arith}
+use Rattle.std.proofs.Common.{◌≡◌, ℕ, zero, suc, ◌<◌, ◌≤◌, cond, nat_le, List, [], ◌∷◌, length, slice_index, le_trans, le_refl, arith}
 use Rattle.std.proofs.lemmas.Bool.Decides.{nat_tests}
 use Rattle.sheet.specs.declared.sheet.Sheet.{Sheet}
 use Rattle.sheet.specs.Charging.{precharge_below, precharge_most}
@@ -16,11 +16,11 @@ use Rattle.prescribers.specs.Usual.{usual_gives}
 use Rattle.prescribers.specs.Shares.{share_mono, ratio-next}
 
 -- a step reached at the higher voltage is reached at the lower one
-one_step : (x y v : ℕ) → x ≤ y → cond (leb y v) 1 0 ≤ cond (leb x v) 1 0
+one_step : (x y v : ℕ) → x ≤ y → cond (nat_le y v) 1 0 ≤ cond (nat_le x v) 1 0
 one_step x y v h = grind (arith, nat_tests)
 
 -- higher step voltages are reached no more often
-fewer_steps : (xs ys : List ℕ) (v : ℕ) → length xs ≡ length ys → ((k : ℕ) → k < length xs → get_or xs k 0 ≤ get_or ys k 0) → steps_reached ys v ≤ steps_reached xs v
+fewer_steps : (xs ys : List ℕ) (v : ℕ) → length xs ≡ length ys → ((k : ℕ) → k < length xs → slice_index xs k ≤ slice_index ys k) → steps_reached ys v ≤ steps_reached xs v
 fewer_steps [] [] v e h = le_refl 0
 fewer_steps [] (y ∷ ys) v e h = absurd (omega arith)
 fewer_steps (x ∷ xs) [] v e h = absurd (omega arith)
@@ -33,11 +33,11 @@ steps_count : (xs : List ℕ) (v : ℕ) → steps_reached xs v ≤ length xs
 steps_count [] v = le_refl 0
 steps_count (x ∷ xs) v =
     let rest = steps_count xs v in
-    let one : cond (leb x v) 1 0 ≤ 1 = grind (arith, nat_tests) in
+    let one : cond (nat_le x v) 1 0 ≤ 1 = grind (arith, nat_tests) in
     omega arith
 
 -- fewer steps of higher ratios leave no less
-ratio-ordered : (m n : ℕ) (xs ys : List ℕ) → n ≤ m → n ≤ 4 → ((i : ℕ) → get_or xs i 0 ≤ 16) → ((i j : ℕ) → i ≤ j → get_or xs j 0 ≤ get_or xs i 0) → ((k : ℕ) → k < 4 → get_or xs k 0 ≤ get_or ys k 0) → ratio_after m xs ≤ ratio_after n ys
+ratio-ordered : (m n : ℕ) (xs ys : List ℕ) → n ≤ m → n ≤ 4 → ((i : ℕ) → slice_index xs i ≤ 16) → ((i j : ℕ) → i ≤ j → slice_index xs j ≤ slice_index xs i) → ((k : ℕ) → k < 4 → slice_index xs k ≤ slice_index ys k) → ratio_after m xs ≤ ratio_after n ys
 ratio-ordered zero zero xs ys h few small fall up = le_refl 16
 ratio-ordered (suc m) zero xs ys h few small fall up = rw (ratio-next m xs) (small m)
 ratio-ordered zero (suc n) xs ys h few small fall up = absurd (omega arith)

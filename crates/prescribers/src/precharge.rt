@@ -39,20 +39,23 @@ impl<P: Prescriber> Prescriber for Precharge<P> {
     ghost ranged = { Prim.search rules };
 
     fn prescribe(&self, r: &Reading) -> Prescription {
-        let mut p = self.below.prescribe(r);
-        if u32::from(r.voltage) < self.until {
-            p.current = p.current.min(self.most);
-        }
-        p
+        self.lower(r, self.below.prescribe(r))
     }
 }
 
 impl<P: Prescriber> Limiter for Precharge<P> {
     type Below = P;
 
+    ghost under = { λ s. s.below };
+
     ghost lowered = { λ s. precharged s.until s.most };
 
-    ghost under = { λ s. s.below };
+    fn lower(&self, r: &Reading, mut p: Prescription) -> Prescription {
+        if u32::from(r.voltage) < self.until {
+            p.current = p.current.min(self.most);
+        }
+        p
+    }
 
     ghost made = { λ s r. refl };
 

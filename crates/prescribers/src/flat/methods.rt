@@ -8,12 +8,17 @@ use super::super::prescription::Prescription;
 use super::Flat;
 use reading::Reading;
 
+// The ranges of a sheet's currents, in mA, and voltages, in mV.
+const MOST_CURRENT: u16 = 20_000;
+
+const MOST_VOLTAGE: u16 = 5_000;
+
 impl Flat {
     // There is no prescriber of a pair outside the sheet's ranges.
     pub fn new(current: u16, voltage: u16) -> Result<Flat, OutOfRange>
         ensures { pair_in result ≡ flat_of current voltage }
     {
-        if current <= 20000 && voltage <= 5000 {
+        if current <= MOST_CURRENT && voltage <= MOST_VOLTAGE {
             Ok(Flat {
                 pair: Prescription { current, voltage },
             })
