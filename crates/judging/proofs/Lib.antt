@@ -1,5 +1,4 @@
 mod Breaking
-mod InOrder
 mod Spelled
 mod Parts
 mod RoundTrip

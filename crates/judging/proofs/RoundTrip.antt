@@ -10,7 +10,8 @@ use Rattle.layout.specs.Decoded.{decoded, contents, summed, ranges, conflicts, n
 use Rattle.layout.specs.Encoded.{pair, content_bytes, body_of, image_of}
 use Rattle.layout.specs.Laws.{Bytes, WritesBack, OneImage}
 use Rattle.judging.proofs.Parts.{next_ok, unless_ok, refuse_ok, all_hold, entry_parts}
-use Rattle.judging.proofs.Spelled.{spelled, spelled_is, low, high, levels_back, degrees_back, rows_back, steps_back, delays_back}
+use Rattle.layout.proofs.Listed.{listed}
+use Rattle.judging.proofs.Spelled.{spelled_is, low, high, levels_back, degrees_back, rows_back, steps_back, delays_back}
 
 -- the four bytes of an entry, from place p of what follows the edition and the count
 entry_bytes : (m : List ℕ) → Bytes m → (p kind size offset : ℕ) → offset < 256 → get_or (drop 2 m) p 0 ≡ kind → get_or (drop 2 m) (p + 1) 0 ≡ size → word (drop 2 m) (p + 2) ≡ offset → (get_or m (2 + p) 0 ≡ kind) × (get_or m (2 + (p + 1)) 0 ≡ size) × (get_or m (2 + (p + 2)) 0 ≡ offset) × (get_or m (2 + (p + 2 + 1)) 0 ≡ 0)
@@ -22,7 +23,7 @@ entry_bytes m b p kind size offset h e f g =
     let l = b (2 + (p + 2)) in
     (omega arith, omega arith, omega arith, omega arith)
 
-pub contents_back : (m : List ℕ) → Bytes m → contents m ≡ Ok tt → spelled 22 0 m ≡ content_bytes
+pub contents_back : (m : List ℕ) → Bytes m → contents m ≡ Ok tt → listed 0 22 0 m ≡ content_bytes
 unfolding contents
 contents_back m b h =
     let u = unless_ok (eqb (get_or m 0 0) 1 && eqb (get_or m 1 0) 5) Header (refuse (first_broken (entry_rules (drop 2 m))) Entry (Ok tt)) tt h in
@@ -46,11 +47,11 @@ contents_back m b h =
 six : {a b c d e f a' b' c' d' e' f' : List ℕ} → a ≡ a' → b ≡ b' → c ≡ c' → d ≡ d' → e ≡ e' → f ≡ f' → a ++ (b ++ (c ++ (d ++ (e ++ f)))) ≡ a' ++ (b' ++ (c' ++ (d' ++ (e' ++ f'))))
 six p q r s t u = cc
 
-pub body_back : (m : List ℕ) → Bytes m → spelled 22 0 m ≡ content_bytes → body_of (limits_of m) ≡ spelled 114 0 m
+pub body_back : (m : List ℕ) → Bytes m → listed 0 22 0 m ≡ content_bytes → body_of (limits_of m) ≡ listed 0 114 0 m
 unfolding body_of limits_of
 body_back m b h = six (sym h) (levels_back m b) (degrees_back m b) (rows_back m b) (steps_back m b) (delays_back m b)
 
-pair_back : (m : List ℕ) → Bytes m → pair (word m 114) ≡ spelled 2 114 m
+pair_back : (m : List ℕ) → Bytes m → pair (word m 114) ≡ listed 0 2 114 m
 pair_back m b = simp (low, high)
 
 pub image_back : (m : List ℕ) → Bytes m → length m ≡ 116 → contents m ≡ Ok tt → summed m ≡ Ok tt → image_of (limits_of m) ≡ m

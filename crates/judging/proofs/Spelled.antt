@@ -1,17 +1,13 @@
 -- What an image's fields write back: the bytes that they were read from.
-use Rattle.std.proofs.Common.{◌≡◌, ℕ, zero, suc, ◌+◌, ◌*◌, ◌/◌, ◌%◌, ◌<◌, ◌≤◌, List, [], ◌∷◌, length, get_or, take, drop, sym, refl, ap, ◌∙◌, arith, w8, to_z, of_z}
+use Rattle.std.proofs.Common.{◌≡◌, ℕ, zero, suc, ◌+◌, ◌*◌, ◌/◌, ◌%◌, ◌<◌, ◌≤◌, List, ◌∷◌, length, get_or, take, drop, sym, refl, ap, ◌∙◌, arith, w8}
 use Rattle.std.specs.List.{flat_map}
 use Rattle.std.proofs.lemmas.List.{drop_more}
 use Rattle.std.proofs.lemmas.Int.{of_z-to_z}
 use Rattle.layout.specs.Fields.{levels_of, degrees_of, steps_of, timing_of, limits_of}
+use Rattle.layout.proofs.Listed.{listed}
 use Rattle.layout.specs.Encoded.{level_bytes, degree_bytes, row_bytes, step_bytes, timing_bytes}
 
--- n bytes from place i on
-abbrev pub spelled : ℕ → ℕ → List ℕ → List ℕ
-spelled zero i m = []
-spelled (suc n) i m = get_or m i 0 ∷ spelled n (i + 1) m
-
-pub spelled_is : (n i : ℕ) (m : List ℕ) → i + n ≤ length m → spelled n i m ≡ take n (drop i m)
+pub spelled_is : (n i : ℕ) (m : List ℕ) → i + n ≤ length m → listed 0 n i m ≡ take n (drop i m)
 spelled_is zero i m h = refl
 spelled_is (suc n) i m h =
     ap (λ xs. get_or m i 0 ∷ xs) (spelled_is n (i + 1) m (omega arith)) ∙ sym (ap (take (suc n)) (drop_more m i 0 (omega arith)))
@@ -22,22 +18,19 @@ low a b h = omega arith
 pub high : (a b : ℕ) → a < 256 → (a + b * 256) / 256 ≡ b
 high a b h = omega arith
 
-pub same_byte : (n : ℕ) → n < 256 → of_z w8 (to_z w8 n) ≡ n
-same_byte n h = of_z-to_z w8 n h
-
 module _ (m : List ℕ) (bytes : (i : ℕ) → get_or m i 0 < 256) where
-  pub levels_back : level_bytes (levels_of m) ≡ spelled 22 22 m
+  pub levels_back : level_bytes (levels_of m) ≡ listed 0 22 22 m
   levels_back = simp (low, high)
 
-  pub degrees_back : degree_bytes (degrees_of m) ≡ spelled 12 44 m
-  degrees_back = simp same_byte
+  pub degrees_back : degree_bytes (degrees_of m) ≡ listed 0 12 44 m
+  degrees_back = simp (of_z-to_z w8)
 
-  pub rows_back : flat_map row_bytes (limits_of m).rows ≡ spelled 42 56 m
+  pub rows_back : flat_map row_bytes (limits_of m).rows ≡ listed 0 42 56 m
   unfolding limits_of
   rows_back = simp (low, high)
 
-  pub steps_back : step_bytes (steps_of m) ≡ spelled 12 98 m
+  pub steps_back : step_bytes (steps_of m) ≡ listed 0 12 98 m
   steps_back = simp (low, high)
 
-  pub delays_back : timing_bytes (timing_of m) ≡ spelled 4 110 m
+  pub delays_back : timing_bytes (timing_of m) ≡ listed 0 4 110 m
   delays_back = simp (low, high)

@@ -6,7 +6,9 @@ ghost use Rattle.layout.specs.Rules.{first_broken, each_row};
 
 use layout::Row;
 
-// The place of the first rule that a row breaks, by a closure that finds it in a row whose first byte has a place.
+// The place of the first rule that a row breaks, by a closure that finds it in a row whose first byte has a place. A place of a row is
+// below 200 in each contract that takes one, so that the places of its fields fit a byte: a type of its own for these five private
+// functions would be no plainer.
 pub(crate) fn first_broken_row<F: Fn(u8, &Row) -> Option<u8>>(
     broken: F,
     rows: &[Row; 7],

@@ -1,3 +1,2 @@
 pub use Rattle.layout.proofs.Facts
 pub use Rattle.layout.proofs.Listed
-pub use Rattle.layout.proofs.Signs

@@ -1,9 +1,9 @@
 -- The image of a sheet is read as that sheet.
-use Rattle.std.proofs.Common.{◌≡◌, ℕ, zero, suc, ◌+◌, ◌*◌, ◌/◌, ◌%◌, ◌<◌, true, ◌&&◌, eqb, List, [], ◌∷◌, length, get_or, ℤ, pos, negsuc, None, Ok, sum, sym, refl, ap, ◌∙◌, subst, arith, w8, to_z, of_z}
+use Rattle.std.proofs.Common.{◌≡◌, ℕ, zero, suc, ◌+◌, ◌*◌, ◌/◌, ◌%◌, ◌<◌, true, ◌&&◌, List, [], ◌∷◌, length, get_or, ℤ, pos, negsuc, None, Ok, sum, sym, refl, ap, ◌∙◌, subst, arith, w8, to_z, of_z}
 use lib.Signed.{mag}
-use Rattle.std.proofs.lemmas.Int.{ints}
+use Rattle.std.proofs.lemmas.Int.{ints, to_z-of_z}
 use Rattle.std.proofs.lemmas.Bool.Decides.{nat_tests}
-use Rattle.std.proofs.lemmas.Bool.{and_parts, eqb-true, eq-eqb}
+use Rattle.std.proofs.lemmas.Bool.{and_parts, eq-eqb}
 use Rattle.layout.specs.declared.limits.Limits.{Limits}
 use Rattle.layout.specs.declared.rule.Rule.{Rule}
 use Rattle.layout.specs.declared.refusal.Refusal.TheVariants.{Sum}
@@ -13,8 +13,8 @@ use Rattle.layout.specs.Accepted.{sound, fits, is_byte, all_bytes, degrees_fit, 
 use Rattle.layout.specs.Decoded.{decoded, contents, summed, ranges, conflicts, unless}
 use Rattle.layout.specs.Encoded.{body_of, image_of}
 use Rattle.layout.specs.Charging.{no_row}
+use Rattle.layout.proofs.Facts.{lengths}
 use Rattle.layout.proofs.Listed.{listed, listed_is, Sized}
-use Rattle.layout.proofs.Signs.{kept}
 use Rattle.layout.proofs.Sized.{sized}
 
 -- a sheet's limits with every table written out
@@ -60,6 +60,7 @@ limits_back l h =
     let p = and_parts (all_bytes d.edges) (is_byte d.hot && (is_byte d.die && is_byte d.permanent)) h in
     let q = and_parts (is_byte d.hot) (is_byte d.die && is_byte d.permanent) p.1 in
     let r = and_parts (is_byte d.die) (is_byte d.permanent) q.1 in
+    let kept : (z : ℤ) → mag z < 128 → to_z w8 (of_z w8 z) ≡ z = λ z h. to_z-of_z w8 z (record { sfits = h }) in
     let e : (i : ℕ) → to_z w8 (of_z w8 (get_or d.edges i (pos 0))) ≡ get_or d.edges i (pos 0) = λ i. kept (get_or d.edges i (pos 0)) (small_at d.edges p.0 i) in
     let hot = kept d.hot (byte_small d.hot q.0) in
     let die = kept d.die (byte_small d.die r.0) in
@@ -104,9 +105,5 @@ pub reads_back : (l : Limits) → sound l ≡ true → fits l ≡ true → decod
 unfolding fits
 reads_back l s f =
     let p = and_parts (lengths_fit l) (degrees_fit l.degrees) f in
-    let a = and_parts (eqb (length l.degrees.edges) 8) _ p.0 in
-    let b = and_parts (eqb (length l.rows) 7) _ a.1 in
-    let c = and_parts (eqb (length l.steps.voltages) 4) (eqb (length l.steps.ratios) 4) b.1 in
-    let z : Sized l = record { edges = eqb-true _ _ a.0; rows = eqb-true _ _ b.0; voltages = eqb-true _ _ c.0; ratios = eqb-true _ _ c.1 } in
-    let e = spells l z in
+    let e = spells l (lengths l f) in
     subst (λ x. decoded (image_of x) ≡ Ok x) (sym e) (spelt_back l p.1 (subst (λ x. sound x ≡ true) e s))
