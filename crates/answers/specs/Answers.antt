@@ -1,8 +1,10 @@
 -- The bytes of an answer, and its line.
-use Rattle.std.specs.Prelude.{ℕ, ◌+◌, ◌*◌, ◌/◌, ◌%◌, cond, List, [], ◌∷◌, ◌++◌, Option, None, Some, ℤ, decimal, slice_index}
+use Rattle.std.specs.Prelude.{ℕ, ◌+◌, cond, List, ◌∷◌, ◌++◌, Option, None, Some, ℤ, decimal, slice_index}
 use Rattle.std.proofs.Common.{of_z, to_z}
 use Rattle.std.specs.Int.{w8}
 use Rattle.std.specs.Fmt.{signed_decimal}
+use Rattle.layout.specs.Encoded.{pair}
+use Rattle.layout.specs.Fields.{word}
 use Rattle.calls.specs.declared.rejection.Rejection.{Rejection}
 use Rattle.calls.specs.Rejections.{number_of as number_of_refusal}
 use Rattle.reading.specs.Regions.{reached_of, number_of}
@@ -21,10 +23,6 @@ region_in a = number_of (reached_of a.region)
 abbrev pub switches_of : Answer → ℕ
 switches_of a = cond a.charge 1 0 + cond a.discharge 2 0
 
--- the two bytes of a word, the low one first
-abbrev pub pair : ℕ → List ℕ
-pair w = w % 256 ∷ w / 256 ∷ []
-
 -- refusal, switches, faults, current, voltage, region in two's complement, a zero, level
 abbrev pub bytes_of : Answer → List ℕ
 bytes_of a = number_in a.refusal ∷ switches_of a ∷ pair a.faults ++ (pair a.current ++ (pair a.voltage ++ (of_z w8 (region_in a) ∷ 0 ∷ pair a.level)))
@@ -33,10 +31,6 @@ bytes_of a = number_in a.refusal ∷ switches_of a ∷ pair a.faults ++ (pair a.
 abbrev pub line_of : Answer → List ℕ
 line_of a = decimal (number_in a.refusal) ++ (32 ∷ decimal (switches_of a) ++ (32 ∷ decimal a.faults ++ (32 ∷ decimal a.current ++ (32 ∷ decimal a.voltage ++ (32 ∷ signed_decimal (region_in a) ++ (32 ∷ decimal a.level))))))
 
--- the word at a place
-abbrev pub word_at : List ℕ → ℕ → ℕ
-word_at b p = slice_index b p + slice_index b (p + 1) * 256
-
 -- the numbers that begin at bytes 0, 1, 2, 4, 6, 8 and 10 as a line: what a reader of the bytes alone would print
 abbrev pub line_at : List ℕ → List ℕ
-line_at b = decimal (slice_index b 0) ++ (32 ∷ decimal (slice_index b 1) ++ (32 ∷ decimal (word_at b 2) ++ (32 ∷ decimal (word_at b 4) ++ (32 ∷ decimal (word_at b 6) ++ (32 ∷ signed_decimal (to_z w8 (slice_index b 8)) ++ (32 ∷ decimal (word_at b 10)))))))
+line_at b = decimal (slice_index b 0) ++ (32 ∷ decimal (slice_index b 1) ++ (32 ∷ decimal (word b 2) ++ (32 ∷ decimal (word b 4) ++ (32 ∷ decimal (word b 6) ++ (32 ∷ signed_decimal (to_z w8 (slice_index b 8)) ++ (32 ∷ decimal (word b 10)))))))

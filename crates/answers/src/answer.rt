@@ -1,6 +1,6 @@
 // An answer, its bytes and its line.
 ghost use Rattle.std.specs.Prelude.{◌≡◌, Some};
-ghost use Rattle.answers.specs.Answers.{number_in, switches_of, pair, bytes_of, line_of, line_at};
+ghost use Rattle.answers.specs.Answers.{number_in, switches_of, bytes_of, line_of, line_at};
 
 use calls::Rejection;
 use reading::Region;
@@ -24,13 +24,6 @@ pub struct Answer {
     pub level: u16,
 }
 
-// The bytes of a word, the low one first.
-fn low_first(word: u16) -> [u8; 2]
-    ensures { result ≡ pair word }
-{
-    word.to_le_bytes()
-}
-
 impl Answer {
     // The number of the refusal, or 0.
     fn refusal_number(&self) -> u8
@@ -52,10 +45,17 @@ impl Answer {
         ensures value { result ≡ bytes_of self.now }
         ensures told { line_at result ≡ line_of self.now }
     {
-        let [faults_low, faults_high] = low_first(self.faults);
-        let [current_low, current_high] = low_first(self.current);
-        let [voltage_low, voltage_high] = low_first(self.voltage);
-        let [level_low, level_high] = low_first(self.level);
+        let Answer {
+            faults,
+            current,
+            voltage,
+            level,
+            ..
+        } = *self;
+        let [faults_low, faults_high] = faults.to_le_bytes();
+        let [current_low, current_high] = current.to_le_bytes();
+        let [voltage_low, voltage_high] = voltage.to_le_bytes();
+        let [level_low, level_high] = level.to_le_bytes();
         [
             self.refusal_number(),
             self.switches(),
