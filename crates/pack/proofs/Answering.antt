@@ -1,8 +1,8 @@
 -- The answer of a pack is what the accepted calls say.
 use Rattle.std.proofs.Common.{◌≡◌, ℕ, ◌≤◌, min, Bool, true, false, cond, not, ◌&&◌, eqb, List, [], ◌∷◌, map, length, get_or, Some, None, Decides, Option, sym, refl, ap, ◌∙◌, subst, arith}
 use Rattle.std.proofs.lemmas.List.{get_or-map, get_or_past, length-map}
-use Rattle.std.proofs.lemmas.Bool.{and_parts, and_from, not-true, not_from_false, false≢true}
-use Rattle.std.proofs.lemmas.Bool.Decides.{Decides-at}
+use Rattle.std.proofs.lemmas.Bool.{not-true, not_from_false}
+use Rattle.std.proofs.lemmas.Bool.Decides.{Decides-at, Decides-like, Decides-not, Decides-and}
 use Rattle.delays.proofs.Rising.{delay_bound}
 use Rattle.sheet.specs.declared.limits.Limits.{Limits}
 use Rattle.reading.specs.declared.prepared.Prepared.{Prepared}
@@ -19,10 +19,16 @@ use Rattle.faults.specs.Blocking.{blocked}
 use Rattle.faults.proofs.Order.{bit_below}
 use Rattle.faults.proofs.Exactly.{at_bit, exactly}
 use Rattle.calls.specs.declared.call.Call.{Call}
+use Rattle.calls.specs.declared.rejection.Rejection.{Rejection}
 use Rattle.calls.specs.Parsed.{parsed}
 use Rattle.answers.specs.declared.answer.Answer.{Answer}
+use Rattle.prescribers.specs.declared.prescriber.Prescriber.{Ghosts}
+use Rattle.sheet.proofs.Facts.{lengths}
+use Rattle.pack.specs.declared.minder.Pack.{Pack}
 use Rattle.pack.specs.declared.state.State.{State}
-use Rattle.pack.specs.Steps.{Meaning, charges, shown_at, permitted_in, refusal_in, after, outcome, answered}
+use Rattle.pack.specs.Called.{Called}
+use Rattle.pack.proofs.Levels.{level_in_lem}
+use Rattle.pack.specs.Steps.{Meaning, charges, shown_at, shown, permitted_in, refusal_in, after, outcome, answered}
 use Rattle.pack.specs.History.{held_offs, calls_of, since_clear}
 use Rattle.pack.specs.Exact.{bit_at, Standing, Switched, Shows, Exact, left, ExactAfter}
 use Rattle.pack.proofs.Tracking.{history_of, Tracks, tracks}
@@ -66,26 +72,14 @@ module _ (l : Limits) (cs : List Call) (x : State) (t : Tracks l cs x) where
   unfolding standing
   past k h = get_or_past (all_standing x.watches.table) k false (omega (arith, length-map x.watches.table (λ w. w.standing), t.table.size))
 
-  switched : (blocking : Fault → Bool) (held now : Bool) → now ≡ held → Decides (not (blocked blocking standing) && not now) (Switched l cs blocking held)
-  switched blocking held now same = (to, from)
-    where
-      clear : not (blocked blocking standing) ≡ true → (f : Fault) → blocking f ≡ true → Standing l cs f → ⊥
-      clear u f b s = false≢true (sym (not-true (blocked blocking standing) u) ∙ (exactly blocking standing (blocked blocking standing) refl).1 (record { fault = f; blocks = b; stands = (stands f).1 s }))
+  switched : (blocking : Fault → Bool) (off now : Bool) → now ≡ off → Decides (not (blocked blocking standing) && not now) (Switched l cs blocking off)
+  switched blocking off now same =
+      Decides-like _
+      (λ p. record { unblocked = λ f b s. p.0 (record { fault = f; blocks = b; stands = (stands f).1 s }); unheld = sym same ∙ p.1 })
+      (λ s. (λ h. s.unblocked h.fault h.blocks ((stands h.fault).0 h.stands), same ∙ s.unheld))
+      (Decides-and _ _ (Decides-not _ (exactly blocking standing (blocked blocking standing) refl)) (not-true now, not_from_false now))
 
-      to : (not (blocked blocking standing) && not now) ≡ true → Switched l cs blocking held
-      to e = let p = and_parts (not (blocked blocking standing)) (not now) e in record { unblocked = clear p.0; unheld = sym same ∙ not-true now p.1 }
-
-      free : (b : Bool) → (b ≡ true → ⊥) → not b ≡ true
-      free true n = absurd (n refl)
-      free false n = refl
-
-      from : Switched l cs blocking held → (not (blocked blocking standing) && not now) ≡ true
-      from s =
-          and_from (not (blocked blocking standing)) (not now)
-          (free (blocked blocking standing) (λ b. let h = (exactly blocking standing (blocked blocking standing) refl).0 b in s.unblocked h.fault h.blocks ((stands h.fault).0 h.stands)))
-          (not_from_false now (same ∙ s.unheld))
-
-  shows : (gives : Meaning) (n : ℕ) (o : Option Prepared) → Shows l gives cs (shown_at gives x n o) o
+  shows : (gives : Meaning) (n : Option Rejection) (o : Option Prepared) → Shows l gives cs (shown_at gives x n o) o
   unfolding standing
   shows gives n None = refl
   shows gives n (Some p) = record {
@@ -112,10 +106,25 @@ exact_in l seven gives earlier bytes =
       shows = subst (λ o. Shows l gives (calls_of (bytes ∷ earlier)) (shown_at gives y n y.last) o) u.last (shows l (calls_of (bytes ∷ earlier)) y u gives n y.last);
     }
   where
-    shown_refusal : (gives : Meaning) (y : State) (n : ℕ) (o : Option Prepared) → (shown_at gives y n o).refusal ≡ n
+    shown_refusal : (gives : Meaning) (y : State) (n : Option Rejection) (o : Option Prepared) → (shown_at gives y n o).refusal ≡ n
     shown_refusal gives y n None = refl
     shown_refusal gives y n (Some p) = refl
 
 pub exact_after : (l : Limits) → length l.rows ≡ 7 → (gives : Meaning) (x : State) (bytes : List ℕ) (a : Answer) → a ≡ answered l gives x bytes → ExactAfter l gives x bytes a
 exact_after l seven gives x bytes a e earlier h =
     subst (Exact l gives earlier bytes) (ap (λ y. answered l gives y bytes) (sym h) ∙ sym e) (exact_in l seven gives earlier bytes)
+
+-- what a call owes, from what taking the record and showing the answer ensure
+pub called : {P : Type 0} {z : Ghosts P} (old new : Pack P z) (bytes : List ℕ) (a : Answer) (e : Option Rejection) → new.timed.sheet ≡ old.timed.sheet → new.prescriber ≡ old.prescriber
+    → new.state ≡ after old.timed.sheet.limits old.state bytes → e ≡ refusal_in (outcome old.state.offs bytes) → a ≡ shown (z.gives new.prescriber) new.state e → Called old bytes new a
+called {z = z} old new bytes a e sheet prescriber state refusal told =
+    let s = old.timed.sheet in
+    let answer : a ≡ answered s.limits (z.gives old.prescriber) old.state bytes = told ∙ (λ i. shown (z.gives (prescriber i)) (state i) (refusal i)) in
+    record {
+      answer = answer;
+      exact = exact_after s.limits (lengths s.limits s.sized).rows (z.gives old.prescriber) old.state bytes a answer;
+      levels = level_in_lem s.limits;
+      sheet = sheet;
+      prescriber = prescriber;
+      state = state;
+    }

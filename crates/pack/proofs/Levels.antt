@@ -1,11 +1,12 @@
 -- The ages of the rows put in force the level that the readings say.
-use Rattle.std.proofs.Common.{◌≡◌, ℕ, zero, suc, ◌+◌, ◌<◌, ◌≤◌, max, Bool, true, false, cond, ltb, ◌⊎◌, List, [], ◌∷◌, map, length, get_or, take, sym, refl, ◌∙◌, inl, inr, le_refl, arith}
+use Rattle.std.proofs.Common.{◌≡◌, ℕ, zero, suc, ◌+◌, ◌<◌, ◌≤◌, cond, ltb, ◌⊎◌, List, [], ◌∷◌, length, get_or, take, sym, refl, ◌∙◌, inl, inr, le_refl, arith}
 use Rattle.std.specs.List.{AllZip, AllByRecursion}
 use Rattle.std.proofs.lemmas.List.{length-map}
-use Rattle.std.proofs.lemmas.Bool.{lt-ltb, ltb-true, cases_lt}
+use Rattle.std.proofs.Math.ListN.{get_or-map}
+use Rattle.std.proofs.lemmas.Bool.{cases_lt}
+use Rattle.std.proofs.lemmas.Bool.Decides.{nat_tests}
 use Rattle.delays.specs.declared.Timer.TheVariants.{Transition}
 use Rattle.delays.proofs.Rising.{delay_bound}
-use Rattle.sheet.specs.declared.limits.Row.{Row}
 use Rattle.sheet.specs.declared.limits.Limits.{Limits}
 use Rattle.sheet.specs.Charging.{no_row}
 use Rattle.reading.specs.declared.reading.Reading.{Reading}
@@ -17,14 +18,6 @@ use Rattle.inforce.proofs.Order.{level_ordered}
 use Rattle.pack.specs.Steps.{levels_of, transition, row_for}
 use Rattle.pack.specs.History.{greatest, level_in, mark_of, marks_of}
 
-either_le : (a b : ℕ) → (a ≤ b) ⊎ (b ≤ a)
-either_le a b = elim (cases_lt a b) [ inl h ↦ inl (omega arith) | inr h ↦ inr (omega arith) ]
-
-level_at_lem : (rows : List Row) (k : ℕ) → get_or (map (λ r. r.level) rows) k 0 ≡ (get_or rows k no_row).level
-level_at_lem [] k = refl
-level_at_lem (r ∷ rows) zero = refl
-level_at_lem (r ∷ rows) (suc k) = level_at_lem rows k
-
 module _ (l : Limits) where
   abbrev times : List Reading → List ℕ
   times rs = times_of (marks_of l rs)
@@ -33,17 +26,13 @@ module _ (l : Limits) where
   levels rs = levels_of_marks (levels_of l) (marks_of l rs)
 
   own_level : (r : Reading) → get_or (levels_of l) (row_for l r) 0 ≡ level_of l r.cell
-  own_level r = level_at_lem l.rows (row_for l r)
-
-  taken : (b : Bool) (v g : ℕ) → b ≡ true → v ≤ max (cond b v 0) g
-  taken true v g e = omega arith
-  taken false v g e = absurd (let z : ◌≡◌ {A = ℕ} 0 1 = cc in omega arith)
+  own_level r = get_or-map (λ w. w.level) l.rows (row_for l r) no_row
 
   -- no reading that still counts has a greater level
   greatest_bound : (d since : ℕ) (rs : List Reading) (k : ℕ) → k < length (levels rs) → since + total (take k (times rs)) < d → get_or (levels rs) k 0 ≤ greatest l d since rs
   greatest_bound d since [] k h y = absurd (omega arith)
   greatest_bound d since (r ∷ rs) zero h y =
-      omega (arith, own_level r, taken (ltb since d) (level_of l r.cell) (greatest l d (since + r.elapsed) rs) (lt-ltb since d (omega arith)))
+      grind (arith, nat_tests, own_level r)
   greatest_bound d since (r ∷ rs) (suc k) h y =
       let more = greatest_bound d (since + r.elapsed) rs k (omega arith) (omega arith) in
       omega arith
@@ -55,24 +44,16 @@ module _ (l : Limits) where
     young : since + total (take place (times rs)) < d
     is : greatest l d since rs ≡ get_or (levels rs) place 0
 
-  pick : (b : Bool) (v : ℕ) → (b ≡ true) ⊎ (cond b v 0 ≡ 0)
-  pick true v = inl refl
-  pick false v = inr refl
-
   greatest_from : (d since : ℕ) (rs : List Reading) → (greatest l d since rs ≡ 0) ⊎ From d since rs
   greatest_from d since [] = inl refl
   greatest_from d since (r ∷ rs) =
-      let v = level_of l r.cell in
-      let b = ltb since d in
+      let v = cond (ltb since d) (level_of l r.cell) 0 in
       let g = greatest l d (since + r.elapsed) rs in
-      elim (either_le (cond b v 0) g) [
-        | inl le ↦ elim (greatest_from d (since + r.elapsed) rs) [
+      elim (cases_lt g v) [
+        | inl lt ↦ inr (record { place = 0; within = omega arith; young = grind (arith, nat_tests); is = grind (arith, nat_tests, own_level r) })
+        | inr ge ↦ elim (greatest_from d (since + r.elapsed) rs) [
           | inl e ↦ inl (omega arith)
           | inr f ↦ inr (record { place = suc f.place; within = omega (arith, f.within); young = omega (arith, f.young); is = omega (arith, f.is) })
-        ]
-        | inr ge ↦ elim (pick b v) [
-          | inl e ↦ inr (record { place = 0; within = omega arith; young = omega (arith, ltb-true since d e); is = let c : cond b v 0 ≡ v = rw e in omega (arith, own_level r) })
-          | inr z ↦ inl (omega arith)
         ]
       ]
 
@@ -83,9 +64,9 @@ module _ (l : Limits) where
       let g = greatest l d r.elapsed older in
       let bound : (k : ℕ) → k < length (levels (r ∷ older)) → Counts d (times (r ∷ older)) k → get_or (levels (r ∷ older)) k 0 ≤ level_in l (r ∷ older) =
       λ k h c. bounded k h c in
-      elim (either_le g (level_of l r.cell)) [
-        | inl le ↦ record { bound = bound; place = 0; within = omega arith; counts = inl refl; reached = omega (arith, own_level r) }
-        | inr ge ↦ elim (greatest_from d r.elapsed older) [
+      elim (cases_lt (level_of l r.cell) g) [
+        | inr le ↦ record { bound = bound; place = 0; within = omega arith; counts = inl refl; reached = omega (arith, own_level r) }
+        | inl lt ↦ elim (greatest_from d r.elapsed older) [
           | inl z ↦ record { bound = bound; place = 0; within = omega arith; counts = inl refl; reached = omega (arith, own_level r) }
           | inr f ↦ record { bound = bound; place = suc f.place; within = omega (arith, f.within); counts = inr (omega (arith, f.young)); reached = omega (arith, f.is) }
         ]

@@ -4,7 +4,7 @@ use Rattle.std.proofs.lemmas.List.{get_or-replicate}
 use Rattle.sheet.specs.declared.limits.Limits.{Limits}
 use Rattle.reading.specs.declared.reading.Reading.{Reading}
 use Rattle.reading.specs.declared.prepared.Prepared.{Prepared}
-use Rattle.reading.specs.Regions.{reached_by, number_of, level_of}
+use Rattle.reading.specs.Regions.{reached_by, region_of, level_of}
 use Rattle.timing.specs.declared.Observation.{Observation}
 use Rattle.timing.specs.Timing.{idle, all_idle, all_stepped}
 use Rattle.timing.specs.Stands.{quiet, TableOf}
@@ -50,7 +50,7 @@ module _ (l : Limits) (seven : length l.rows ≡ 7) where
   prepared_same cs x t r =
       let ages : aged (row_for l r) r.elapsed x.ages.table ≡ ages_of (marks_of l (r ∷ readings cs)) = ap (aged (row_for l r) r.elapsed) t.ages in
       let level : level_in_force (transition l) (level_of l r.cell) (aged (row_for l r) r.elapsed x.ages.table) (levels_of l) ≡ level_in l (r ∷ readings cs) = ap (λ a. level_in_force (transition l) (level_of l r.cell) a (levels_of l)) ages ∙ level_is l seven r (readings cs) in
-      λ i. record { reading = r; region = number_of (reached_by l.degrees.edges r.cell); level = level i; word = t.word i }
+      λ i. record { reading = r; region = region_of (reached_by l.degrees.edges r.cell); level = level i; word = t.word i }
 
   tracks_reading : (cs : List Call) (x : State) → Tracks l cs x → (r : Reading) → Tracks l (Read r ∷ cs) (reads l x r)
   unfolding reads

@@ -1,8 +1,9 @@
 -- The answer to a record, as the accepted calls of the whole history say it.
-use Rattle.std.specs.Prelude.{◌≡◌, ℕ, ◌/◌, ◌%◌, ◌^◌, ◌≤◌, min, Bool, true, false, cond, List, [], ◌∷◌, pos, Some, None, Decides, Option, ◌==◌}
+use Rattle.std.specs.Prelude.{◌≡◌, ℕ, ◌/◌, ◌%◌, ◌^◌, ◌≤◌, min, Bool, true, false, cond, List, [], ◌∷◌, Some, None, Decides, Option, ◌==◌}
 use Rattle.sheet.specs.declared.limits.Limits.{Limits}
 use Rattle.reading.specs.declared.reading.Reading.{Reading}
 use Rattle.reading.specs.declared.prepared.Prepared.{Prepared}
+use Rattle.reading.specs.declared.region.Region.TheVariants.{Room}
 use Rattle.timing.specs.Stands.{Stands}
 use Rattle.inforce.specs.Level.{InForce, times_of, levels_of_marks}
 use Rattle.faults.specs.declared.fault.Fault.{Fault}
@@ -39,9 +40,9 @@ pub record AfterReading (l : Limits) (gives : Meaning) (cs : List Call) (p : Pre
   pub region : a.region ≡ p.region
   pub level : a.level ≡ p.level
 
--- before the first accepted reading all but the refusal is zero
+-- before the first accepted reading nothing stands, both switches are off, and all numbers are zero, the region's too, that of Room
 abbrev pub Shows : Limits → Meaning → List Call → Answer → Option Prepared → Type 0
-Shows l gives cs a None = a ≡ record { refusal = a.refusal; charge = false; discharge = false; faults = 0; current = 0; voltage = 0; region = pos 0; level = 0 }
+Shows l gives cs a None = a ≡ record { refusal = a.refusal; charge = false; discharge = false; faults = 0; current = 0; voltage = 0; region = Room; level = 0 }
 Shows l gives cs a (Some p) = AfterReading l gives cs p a
 
 -- the level that a reading has in an answer and in the rules of the faults is the one in force by all accepted readings

@@ -3,7 +3,7 @@ use Rattle.std.specs.Prelude.{ℕ, ◌+◌, max, Bool, true, false, cond, List, 
 use Rattle.sheet.specs.declared.limits.Limits.{Limits}
 use Rattle.reading.specs.declared.reading.Reading.{Reading}
 use Rattle.reading.specs.declared.prepared.Prepared.{Prepared}
-use Rattle.reading.specs.Regions.{reached_by, number_of, level_of}
+use Rattle.reading.specs.Regions.{reached_by, region_of, level_of}
 use Rattle.timing.specs.declared.Observation.{Observation}
 use Rattle.inforce.specs.Ages.{Mark}
 use Rattle.faults.specs.declared.fault.Fault.{Fault}
@@ -81,7 +81,7 @@ marks_of l rs = map (mark_of l) rs
 
 -- a reading, with what the accepted calls before it say beside it
 abbrev pub prepared_after : Limits → List Call → Reading → Prepared
-prepared_after l cs r = record { reading = r; region = number_of (reached_by l.degrees.edges r.cell); level = level_in l (r ∷ readings cs); word = word_since cs }
+prepared_after l cs r = record { reading = r; region = region_of (reached_by l.degrees.edges r.cell); level = level_in l (r ∷ readings cs); word = word_since cs }
 
 -- the newest accepted reading
 abbrev pub last_of : Limits → List Call → Option Prepared

@@ -1,28 +1,29 @@
 -- How a record moves the state of a pack, and what the pack answers.
-use Rattle.std.specs.Prelude.{ℕ, min, Bool, true, false, cond, not, ◌&&◌, List, map, pos, Some, None, Ok, Err, Option, Result}
+use Rattle.std.specs.Prelude.{ℕ, min, Bool, true, false, cond, not, ◌&&◌, List, map, Some, None, Ok, Err, Option, Result}
 use Rattle.delays.specs.declared.Timer.TheVariants.{Transition}
 use Rattle.delays.specs.Delays.{delay_of}
 use Rattle.sheet.specs.declared.limits.Limits.{Limits}
 use Rattle.reading.specs.declared.reading.Reading.{Reading}
 use Rattle.reading.specs.declared.prepared.Prepared.{Prepared}
-use Rattle.reading.specs.Regions.{reached_by, row_at, number_of, level_of}
+use Rattle.reading.specs.declared.region.Region.TheVariants.{Room}
+use Rattle.reading.specs.Regions.{reached_by, region_of, row_at, level_of}
 use Rattle.timing.specs.Timing.{all_idle, all_stepped, all_standing}
 use Rattle.timing.specs.Mask.{mask_of}
 use Rattle.inforce.specs.Ages.{unseen, aged, level_in_force}
-use Rattle.faults.specs.Faults.{blocks_charge, blocks_discharge}
+use Rattle.faults.specs.declared.blocking.Switch as blocking
+use Rattle.faults.specs.declared.blocking.Switch.TheVariants.{Charge, Discharge}
 use Rattle.faults.specs.Observed.{observations, fault_delays}
-use Rattle.faults.specs.Blocking.{blocked}
+use Rattle.faults.specs.Blocking.{blocks, blocked}
 use Rattle.prescribers.specs.declared.prescription.Prescription.{Prescription}
 use Rattle.calls.specs.declared.call.Call.{Call}
 use Rattle.calls.specs.declared.call.Call.TheVariants.{Read, Word, Limit, Switch, Clear}
 use Rattle.calls.specs.declared.call.Offs.{Offs}
 use Rattle.calls.specs.declared.rejection.Rejection.{Rejection}
 use Rattle.calls.specs.declared.rejection.Rejection.TheVariants.{Live}
-use Rattle.calls.specs.Rejections as rejections
 use Rattle.calls.specs.Parsed.{parsed}
 use Rattle.answers.specs.declared.answer.Answer.{Answer}
 use Rattle.pack.specs.declared.state.State.{State}
-use Rattle.pack.specs.declared.waits.Waits.{Waits}
+use Rattle.pack.specs.declared.timed.Waits.{Waits}
 
 -- a new pack: no reading, no host word, the widest limit, no switch-off
 abbrev pub fresh : State
@@ -42,9 +43,9 @@ levels_of l = map (λ r. r.level) l.rows
 abbrev pub transition : Limits → ℕ
 transition l = delay_of Transition l.timing.delaycfg
 
--- every delay that a pack goes by
+-- every delay that a pack goes by, and the levels
 abbrev pub waits_of : Limits → Waits
-waits_of l = record { faults = fault_delays l; transition = transition l }
+waits_of l = record { faults = fault_delays l; transition = transition l; levels = levels_of l }
 
 -- the row that serves a reading
 abbrev pub row_for : Limits → Reading → ℕ
@@ -54,7 +55,7 @@ row_for l r = row_at (reached_by l.degrees.edges r.cell)
 abbrev pub prepared_by : Limits → State → Reading → Prepared
 prepared_by l x r = record {
   reading = r;
-  region = number_of (reached_by l.degrees.edges r.cell);
+  region = region_of (reached_by l.degrees.edges r.cell);
   level = level_in_force (transition l) (level_of l r.cell) (aged (row_for l r) r.elapsed x.ages.table) (levels_of l);
   word = x.word;
 }
@@ -100,31 +101,39 @@ abbrev pub moved_by : Limits → State → Result Call Rejection → State
 moved_by l x (Ok c) = moved l x c
 moved_by l x (Err e) = x
 
--- the number of the refusal, or 0
-abbrev pub refusal_in : Result Call Rejection → ℕ
-refusal_in (Ok c) = 0
-refusal_in (Err e) = rejections.number_of e
+-- the refusal, if there is one
+abbrev pub refusal_in : Result Call Rejection → Option Rejection
+refusal_in (Ok c) = None
+refusal_in (Err e) = Some e
 
 -- the state after a record
 abbrev pub after : Limits → State → List ℕ → State
 after l x bytes = moved_by l x (outcome x.offs bytes)
 
--- the switches: no standing fault blocks, and no switch-off holds
+-- the host holds the switch off
+abbrev pub held : blocking.Switch → Offs → Bool
+held Charge o = o.charge
+held Discharge o = o.discharge
+
+-- a switch is on: no standing fault blocks it, and no switch-off holds it
+abbrev pub is_on : blocking.Switch → State → Bool
+is_on s x = not (blocked (blocks s) (all_standing x.watches.table)) && not (held s x.offs)
+
 abbrev pub charges : State → Bool
-charges x = not (blocked blocks_charge (all_standing x.watches.table)) && not x.offs.charge
+charges x = is_on Charge x
 
 abbrev pub discharges : State → Bool
-discharges x = not (blocked blocks_discharge (all_standing x.watches.table)) && not x.offs.discharge
+discharges x = is_on Discharge x
 
 -- what a prescriber gives for each reading
 abbrev pub Meaning : Type 0
 Meaning = Reading → Prescription
 
--- what stands, with a refusal's number or 0; nothing before the first accepted reading
-abbrev pub shown_at : Meaning → State → ℕ → Option Prepared → Answer
-shown_at gives x n None = record { refusal = n; charge = false; discharge = false; faults = 0; current = 0; voltage = 0; region = pos 0; level = 0 }
-shown_at gives x n (Some p) = record {
-  refusal = n;
+-- what stands, with the refusal of a record; nothing before the first accepted reading
+abbrev pub shown_at : Meaning → State → Option Rejection → Option Prepared → Answer
+shown_at gives x e None = record { refusal = e; charge = false; discharge = false; faults = 0; current = 0; voltage = 0; region = Room; level = 0 }
+shown_at gives x e (Some p) = record {
+  refusal = e;
   charge = charges x;
   discharge = discharges x;
   faults = mask_of (all_standing x.watches.table);
@@ -135,8 +144,8 @@ shown_at gives x n (Some p) = record {
 }
 
 -- the same, for the state's own last reading
-abbrev pub shown : Meaning → State → ℕ → Answer
-shown gives x n = shown_at gives x n x.last
+abbrev pub shown : Meaning → State → Option Rejection → Answer
+shown gives x e = shown_at gives x e x.last
 
 -- the answer to a record
 abbrev pub answered : Limits → Meaning → State → List ℕ → Answer

@@ -3,6 +3,6 @@
 
 mod minder;
 mod state;
-mod waits;
+mod timed;
 
 pub use minder::Pack;

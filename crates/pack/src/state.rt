@@ -1,13 +1,17 @@
 // What the accepted calls have left, apart from the sheet and the prescriber: plain memory, the same for every kind of pack.
 ghost use Rattle.std.specs.Prelude.{◌≡◌};
-ghost use Rattle.pack.specs.Steps.{fresh, levels_of, reads, moved, permitted, outcome, charges, discharges, waits_of};
+ghost use Rattle.std.specs.Result.{result_err};
+ghost use Rattle.pack.specs.Steps.{fresh, reads, moved, permitted, outcome, refusal_in, after, held, is_on};
 
-use super::waits::Waits;
+use super::timed::TimedSheet;
 use calls::{Call, Offs, Rejection};
-use inforce::{Ages, ROWS};
+use faults::Switch;
+use inforce::Ages;
 use reading::{Prepared, Reading, Region};
-use sheet::Sheet;
 use timing::Watches;
+
+// The host limit, in mA, before the host says one: the widest that a record can bring.
+const WIDEST: u16 = 20000;
 
 #[derive(Clone, Copy)]
 pub struct State {
@@ -25,22 +29,6 @@ pub struct State {
     pub offs: Offs,
 }
 
-// The over-voltage level of each row.
-fn levels(sheet: &Sheet) -> [u16; ROWS]
-    ensures { result ≡ levels_of sheet.now.limits }
-{
-    let rows = &sheet.limits.rows;
-    [
-        rows[0].level,
-        rows[1].level,
-        rows[2].level,
-        rows[3].level,
-        rows[4].level,
-        rows[5].level,
-        rows[6].level,
-    ]
-}
-
 impl State {
     // No call has come: no host word, no switch-off, and the widest limit.
     pub(crate) fn new() -> State
@@ -51,7 +39,7 @@ impl State {
             ages: Ages::new(),
             last: None,
             word: false,
-            limit: 20000,
+            limit: WIDEST,
             offs: Offs {
                 charge: false,
                 discharge: false,
@@ -63,41 +51,34 @@ impl State {
     fn permit(&self, call: Call) -> Result<Call, Rejection>
         ensures { result ≡ permitted self.now.offs call }
     {
+        let off = self.offs.charge && self.offs.discharge;
         match call {
-            Call::Clear => {
-                if self.offs.charge && self.offs.discharge {
-                    Ok(Call::Clear)
-                } else {
-                    Err(Rejection::Live)
-                }
-            }
-            Call::Read(reading) => Ok(Call::Read(reading)),
-            Call::Word => Ok(Call::Word),
-            Call::Limit(limit) => Ok(Call::Limit(limit)),
-            Call::Switch(offs) => Ok(Call::Switch(offs)),
+            Call::Clear if !off => Err(Rejection::Live),
+            _ => Ok(call),
         }
     }
 
     // The call that a record brings, or its refusal.
-    pub(crate) fn admit(&self, bytes: &[u8]) -> Result<Call, Rejection>
+    fn admit(&self, bytes: &[u8]) -> Result<Call, Rejection>
         ensures { result ≡ outcome self.now.offs bytes.now }
     {
         self.permit(calls::parse(bytes)?)
     }
 
     // An accepted reading moves every watch and every age, and uses up the host word.
-    fn apply_reading(&mut self, sheet: &Sheet, waits: &Waits, reading: Reading)
-        requires { waits.now ≡ waits_of sheet.now.limits }
-        ensures { self.new ≡ reads sheet.now.limits self.old reading }
+    #[tactic(auto, unfolding(crate::specs::Steps::reads))]
+    fn apply_reading(&mut self, timed: &TimedSheet, reading: Reading)
+        ensures { self.new ≡ reads timed.now.sheet.limits self.old reading }
     {
+        let TimedSheet { sheet, waits } = timed;
         let region = Region::of(&sheet.limits.degrees, reading.cell);
         self.ages.pass(region.row(), reading.elapsed);
         let level = self
             .ages
-            .level(region.level(sheet), &levels(sheet), waits.transition);
+            .level(region.level(sheet), &waits.levels, waits.transition);
         let prepared = Prepared {
             reading,
-            region: region.number(),
+            region,
             level,
             word: self.word,
         };
@@ -107,12 +88,11 @@ impl State {
         self.word = false;
     }
 
-    pub(crate) fn apply(&mut self, sheet: &Sheet, waits: &Waits, call: Call)
-        requires { waits.now ≡ waits_of sheet.now.limits }
-        ensures { self.new ≡ moved sheet.now.limits self.old call }
+    fn apply(&mut self, timed: &TimedSheet, call: Call)
+        ensures { self.new ≡ moved timed.now.sheet.limits self.old call }
     {
         match call {
-            Call::Read(reading) => self.apply_reading(sheet, waits, reading),
+            Call::Read(reading) => self.apply_reading(timed, reading),
             Call::Word => self.word = true,
             Call::Limit(limit) => self.limit = limit,
             Call::Switch(offs) => self.offs = offs,
@@ -120,17 +100,30 @@ impl State {
         }
     }
 
-    // No standing fault blocks charging, and no switch-off holds it.
-    pub(crate) fn charges(&self) -> bool
-        ensures { result ≡ charges self.now }
+    // Moves by a record. A refusal moves nothing.
+    pub(crate) fn take(&mut self, timed: &TimedSheet, bytes: &[u8]) -> Result<(), Rejection>
+        ensures refusal { result_err result ≡ refusal_in (outcome self.old.offs bytes.now) }
+        ensures state { self.new ≡ after timed.now.sheet.limits self.old bytes.now }
     {
-        !faults::blocks_charge(&self.watches.standing()) & !self.offs.charge
+        let call = self.admit(bytes)?;
+        self.apply(timed, call);
+        Ok(())
     }
 
-    // No standing fault blocks discharging, and no switch-off holds it.
-    pub(crate) fn discharges(&self) -> bool
-        ensures { result ≡ discharges self.now }
+    // The host holds the switch off.
+    fn is_held(&self, switch: Switch) -> bool
+        ensures { result ≡ held switch self.now.offs }
     {
-        !faults::blocks_discharge(&self.watches.standing()) & !self.offs.discharge
+        match switch {
+            Switch::Charge => self.offs.charge,
+            Switch::Discharge => self.offs.discharge,
+        }
+    }
+
+    // No standing fault blocks the switch, and no switch-off holds it.
+    pub(crate) fn is_on(&self, switch: Switch) -> bool
+        ensures { result ≡ is_on switch self.now }
+    {
+        !faults::is_blocked(switch, &self.watches.standing()) & !self.is_held(switch)
     }
 }

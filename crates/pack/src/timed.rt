@@ -1,0 +1,41 @@
+// A sheet, with what a pack asks of it at every reading looked up once.
+ghost use Rattle.std.specs.Prelude.{◌≡◌};
+ghost use Rattle.pack.specs.Steps.{waits_of};
+
+use delays::Timer;
+use inforce::ROWS;
+use sheet::Sheet;
+use timing::FAULTS;
+
+// How long each fault waits, and the level in force; and the over-voltage level of each row.
+#[derive(Clone, Copy)]
+pub struct Waits {
+    // the delay of each fault, in ms
+    pub faults: [u32; FAULTS],
+    // the transition delay, in ms
+    pub transition: u32,
+    // the level of each row, in mV
+    pub levels: [u16; ROWS],
+}
+
+#[derive(Clone, Copy)]
+pub struct TimedSheet {
+    pub sheet: Sheet,
+    pub waits: Waits,
+    ghost timed: { waits ≡ waits_of sheet.limits },
+}
+
+impl TimedSheet {
+    pub(crate) fn new(sheet: Sheet) -> TimedSheet
+        ensures { result.sheet ≡ sheet }
+    {
+        TimedSheet {
+            sheet,
+            waits: Waits {
+                faults: faults::delays(&sheet),
+                transition: sheet.delay(Timer::Transition),
+                levels: sheet.limits.rows.map(|row| row.level),
+            },
+        }
+    }
+}
