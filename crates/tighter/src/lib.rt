@@ -2,7 +2,7 @@
 #![tactic(auto)]
 
 ghost use Rattle.std.specs.Prelude.{◌≡◌};
-ghost use Rattle.pack.specs.Steps.{fresh, after, answered};
+ghost use Rattle.pack.specs.Called.{Called};
 ghost use Rattle.order.specs.Generous.{Generous};
 ghost use Rattle.prescribers.specs.Usual.{usual_gives};
 ghost use Rattle.tighter.specs.Order.{newest_first, last_answers, TighterRun, TighterNeverMore, TighterCall};
@@ -12,61 +12,19 @@ use pack::Pack;
 use prescribers::{Prescriber, usual};
 use sheet::Sheet;
 
-// One record to both packs.
-fn answers_of_both<P: Prescriber, Q: Prescriber>(
-    tight: &mut Pack<P>,
-    loose: &mut Pack<Q>,
-    bytes: &[u8],
-) -> (Answer, Answer)
-    ensures tight { result.0 ≡ answered tight.old.sheet.limits (P.Prescriber.gives tight.old.prescriber) tight.old.state bytes.now }
-    ensures loose { result.1 ≡ answered loose.old.sheet.limits (Q.Prescriber.gives loose.old.prescriber) loose.old.state bytes.now }
-    ensures ordered { TighterCall tight.old.sheet.limits (P.Prescriber.gives tight.old.prescriber) tight.old.state loose.old.sheet.limits (Q.Prescriber.gives loose.old.prescriber) loose.old.state result.0 result.1 }
-    ensures tight_sheet { tight.new.sheet ≡ tight.old.sheet }
-    ensures tight_prescriber { tight.new.prescriber ≡ tight.old.prescriber }
-    ensures tight_state { tight.new.state ≡ after tight.old.sheet.limits tight.old.state bytes.now }
-    ensures loose_sheet { loose.new.sheet ≡ loose.old.sheet }
-    ensures loose_prescriber { loose.new.prescriber ≡ loose.old.prescriber }
-    ensures loose_state { loose.new.state ≡ after loose.old.sheet.limits loose.old.state bytes.now }
-{
-    let a = tight.call(bytes);
-    let b = loose.call(bytes);
-    (a, b)
-}
-
 // One record to both packs: the tight pack's answer and the loose pack's.
 pub fn call_both<P: Prescriber, Q: Prescriber>(
     tight: &mut Pack<P>,
     loose: &mut Pack<Q>,
     bytes: &[u8],
 ) -> (Answer, Answer)
-    ensures tight { result.0 ≡ answered tight.old.sheet.limits (P.Prescriber.gives tight.old.prescriber) tight.old.state bytes.now }
-    ensures loose { result.1 ≡ answered loose.old.sheet.limits (Q.Prescriber.gives loose.old.prescriber) loose.old.state bytes.now }
-    ensures ordered { TighterCall tight.old.sheet.limits (P.Prescriber.gives tight.old.prescriber) tight.old.state loose.old.sheet.limits (Q.Prescriber.gives loose.old.prescriber) loose.old.state result.0 result.1 }
-    ensures tight_sheet { tight.new.sheet ≡ tight.old.sheet }
-    ensures tight_prescriber { tight.new.prescriber ≡ tight.old.prescriber }
-    ensures tight_state { tight.new.state ≡ after tight.old.sheet.limits tight.old.state bytes.now }
-    ensures loose_sheet { loose.new.sheet ≡ loose.old.sheet }
-    ensures loose_prescriber { loose.new.prescriber ≡ loose.old.prescriber }
-    ensures loose_state { loose.new.state ≡ after loose.old.sheet.limits loose.old.state bytes.now }
+    ensures tight { Called tight.old bytes.now tight.new result.0 }
+    ensures loose { Called loose.old bytes.now loose.new result.1 }
+    ensures ordered { TighterCall tight.old loose.old result.0 result.1 }
 {
-    answers_of_both(tight, loose, bytes)
-}
-
-// Feeds the records to both packs, and answers with what both said of the last one.
-fn feed_both<P: Prescriber, Q: Prescriber>(
-    tight: &mut Pack<P>,
-    loose: &mut Pack<Q>,
-    records: &[&[u8]],
-) -> Option<(Answer, Answer)>
-    requires { (tight.old.state ≡ fresh) × (loose.old.state ≡ fresh) }
-    ensures last { result ≡ last_answers tight.old.sheet.limits (P.Prescriber.gives tight.old.prescriber) loose.old.sheet.limits (Q.Prescriber.gives loose.old.prescriber) (newest_first records.now) }
-    ensures ordered { TighterNeverMore tight.old.sheet.limits (P.Prescriber.gives tight.old.prescriber) loose.old.sheet.limits (Q.Prescriber.gives loose.old.prescriber) (newest_first records.now) }
-{
-    let mut last = None;
-    for bytes in records {
-        last = Some(call_both(tight, loose, bytes));
-    }
-    last
+    let a = tight.call(bytes);
+    let b = loose.call(bytes);
+    (a, b)
 }
 
 // A tighter pack never does more. Two new packs, on two accepted sheets and with two prescribers of any kinds, are given every
@@ -83,7 +41,11 @@ pub fn run_both<P: Prescriber + Drop, Q: Prescriber + Drop>(
 {
     let mut cautious = Pack::new(tight.0, tight.1);
     let mut generous = Pack::new(loose.0, loose.1);
-    feed_both(&mut cautious, &mut generous, records)
+    let mut last = None;
+    for bytes in records {
+        last = Some(call_both(&mut cautious, &mut generous, bytes));
+    }
+    last
 }
 
 // The same with the usual stack of each sheet: these are in order whenever the sheets are.
