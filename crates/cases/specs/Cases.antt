@@ -6,6 +6,7 @@ use Rattle.order.specs.Generous.{Generous}
 use Rattle.prescribers.specs.Usual.{usual_gives}
 use Rattle.calls.specs.Kinds.{reading_of}
 use Rattle.answers.specs.declared.answer.Answer.{Answer}
+use Rattle.answers.specs.Answers.{number_in}
 use Rattle.pack.specs.Exact.{bit_at}
 use Rattle.cases.specs.Sample.{sample, short_watchdog}
 use Rattle.cases.specs.Records.{at25, at46, switch_offs, clear, answer_to}
@@ -63,7 +64,7 @@ pub record MoreWorkedCases : Type 0 where
   -- 9. a reading of 700 ms at 2799 mV raises UVP; a second one leaves it at 2999 mV, and releases it at 3000 mV
   pub undervoltage : (shows (answer_to (at25 1 2999) (at25 700 2799 ∷ [])) uvp ≡ true) × (shows (answer_to (at25 1 3000) (at25 700 2799 ∷ [])) uvp ≡ false)
   -- 10. a clear is refused, with 10, while charge alone or discharge alone is held off, and taken while both are
-  pub cleared : ((answer_to clear (switch_offs 1 ∷ [])).refusal ≡ 10) × ((answer_to clear (switch_offs 2 ∷ [])).refusal ≡ 10) × ((answer_to clear (switch_offs 3 ∷ [])).refusal ≡ 0)
+  pub cleared : (number_in (answer_to clear (switch_offs 1 ∷ [])).refusal ≡ 10) × (number_in (answer_to clear (switch_offs 2 ∷ [])).refusal ≡ 10) × (number_in (answer_to clear (switch_offs 3 ∷ [])).refusal ≡ 0)
   -- 11. each region has its own row; TooCold and TooHot have the level of the row beside them, and nothing is charged there
   pub rows : (map (level_of sample) in_each ≡ 4150 ∷ 4150 ∷ 4200 ∷ 4250 ∷ 4300 ∷ 4250 ∷ 4150 ∷ 4100 ∷ 4100 ∷ [])
       × (map (zone_current sample) in_each ≡ 0 ∷ 100 ∷ 200 ∷ 500 ∷ 1000 ∷ 800 ∷ 400 ∷ 200 ∷ 0 ∷ [])
