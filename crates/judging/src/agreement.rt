@@ -5,8 +5,8 @@ ghost use Rattle.layout.specs.Rules.{level_conflicts, edge_conflicts, row_confli
 ghost use Rattle.layout.specs.Decoded.{refuse, conflicts};
 
 use super::broken::first_broken;
-use super::row::first_broken_row;
-use layout::{Levels, Limits, Refusal, Row, Rule, Steps};
+use super::row::{Placed, first_broken_row};
+use layout::{Levels, Limits, Refusal, Rule, Steps};
 use std::array;
 
 fn level_conflicts(l: &Levels) -> [Rule; 1]
@@ -28,18 +28,17 @@ fn edge_conflicts(edges: &[i8; 8]) -> [Rule; 7]
     })
 }
 
-fn row_conflicts(overdrop: u16, place: u8, row: &Row) -> [Rule; 2]
-    requires { place < 200 }
-    ensures { result ≡ row_conflicts overdrop place row.now }
+fn row_conflicts(overdrop: u16, placed: Placed) -> [Rule; 2]
+    ensures { result ≡ row_conflicts overdrop placed.place placed.row }
 {
     [
         Rule {
-            place: place + 2,
-            kept: row.voltage <= row.level,
+            place: placed.place + 2,
+            kept: placed.row.voltage <= placed.row.level,
         },
         Rule {
-            place: place + 4,
-            kept: overdrop <= row.level,
+            place: placed.place + 4,
+            kept: overdrop <= placed.row.level,
         },
     ]
 }
@@ -85,10 +84,10 @@ pub(crate) fn check_agreement(l: &Limits) -> Result<(), Refusal>
         &l.degrees.edges,
     )));
     let overdrop = l.levels.overdrop;
-    let of_row = |place: u8, row: &Row|
-        requires { place < 200 }
-    { first_broken(&row_conflicts(overdrop, place, row)) };
-    let rows = first_broken_row(of_row, &l.rows);
+    let rows = first_broken_row(
+        |placed| first_broken(&row_conflicts(overdrop, placed)),
+        &l.rows,
+    );
     let steps = first_broken(&step_conflicts(&l.steps));
     let broken = front.or(rows).or(steps);
     broken.map_or(Ok(()), |place| Err(Refusal::Conflict(place)))

@@ -5,8 +5,8 @@ ghost use Rattle.layout.specs.Rules.{level_ranges, degree_ranges, row_ranges, st
 ghost use Rattle.layout.specs.Decoded.{refuse, ranges};
 
 use super::broken::first_broken;
-use super::row::first_broken_row;
-use layout::{Degrees, Levels, Limits, Refusal, Row, Rule, Steps, Timing};
+use super::row::{Placed, first_broken_row};
+use layout::{Degrees, Levels, Limits, Refusal, Rule, Steps, Timing};
 
 const VOLTAGE: u16 = 5000;
 
@@ -74,22 +74,21 @@ fn degree_ranges(d: &Degrees) -> [Rule; 1]
     }]
 }
 
-fn row_ranges(place: u8, row: &Row) -> [Rule; 3]
-    requires { place < 200 }
-    ensures { result ≡ row_ranges place row.now }
+fn row_ranges(placed: Placed) -> [Rule; 3]
+    ensures { result ≡ row_ranges placed.place placed.row }
 {
     [
         Rule {
-            place,
-            kept: row.current <= CURRENT,
+            place: placed.place,
+            kept: placed.row.current <= CURRENT,
         },
         Rule {
-            place: place + 2,
-            kept: row.voltage <= VOLTAGE,
+            place: placed.place + 2,
+            kept: placed.row.voltage <= VOLTAGE,
         },
         Rule {
-            place: place + 4,
-            kept: row.level <= VOLTAGE,
+            place: placed.place + 4,
+            kept: placed.row.level <= VOLTAGE,
         },
     ]
 }
@@ -147,10 +146,7 @@ pub(crate) fn check_ranges(l: &Limits) -> Result<(), Refusal>
     ensures { result ≡ ranges l.now }
 {
     let front = first_broken(&level_ranges(&l.levels)).or(first_broken(&degree_ranges(&l.degrees)));
-    let of_row = |place: u8, row: &Row|
-        requires { place < 200 }
-    { first_broken(&row_ranges(place, row)) };
-    let rows = first_broken_row(of_row, &l.rows);
+    let rows = first_broken_row(|placed| first_broken(&row_ranges(placed)), &l.rows);
     let back = first_broken(&step_ranges(&l.steps)).or(first_broken(&timing_ranges(&l.timing)));
     let broken = front.or(rows).or(back);
     broken.map_or(Ok(()), |place| Err(Refusal::Range(place)))

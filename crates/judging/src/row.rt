@@ -6,18 +6,27 @@ ghost use Rattle.layout.specs.Rules.{first_broken, each_row};
 
 use layout::Row;
 
-// The place of the first rule that a row breaks, by a closure that finds it in a row whose first byte has a place. A place of a row is
-// below 200 in each contract that takes one, so that the places of its fields fit a byte: a type of its own for these five private
-// functions would be no plainer.
-pub(crate) fn first_broken_row<F: Fn(u8, &Row) -> Option<u8>>(
+// A row and the place of its first byte, which is so low that the places of the row's fields fit a byte.
+#[derive(Clone, Copy)]
+pub(crate) struct Placed {
+    pub(crate) place: u8,
+    pub(crate) row: Row,
+    ghost low: { place < 200 },
+}
+
+// The place of the first rule that a row breaks, by a closure that finds it in one row.
+pub(crate) fn first_broken_row<F: Fn(Placed) -> Option<u8>>(
     broken: F,
     rows: &[Row; 7],
 ) -> Option<u8>
-    requires { (place : ℕ) (row : _) → place < 200 → F.pre broken place row }
-    ensures { (rules : ℕ → Row → List Rule) → ((place : ℕ) (row : _) (found : _) → place < 200 → F.post broken place row found → found ≡ first_broken (rules place row.now)) → result ≡ first_broken (each_row rules 56 rows.now) }
+    requires { F.IsAlwaysCallable broken }
+    ensures { (rules : ℕ → Row → List Rule) → ((p : _) (found : _) → F.post broken p found → found ≡ first_broken (rules p.place p.row)) → result ≡ first_broken (each_row rules 56 rows.now) }
 {
     for (i, row) in rows.iter().enumerate() {
-        let found = broken(56 + 6 * i as u8, row);
+        let found = broken(Placed {
+            place: 56 + 6 * i as u8,
+            row: *row,
+        });
         if found.is_some() {
             return found;
         }

@@ -1,6 +1,6 @@
 // The limits that a sheet sets, field by field in the order of the image. Voltages are in mV, currents in mA.
 
-#[derive(Clone, Copy)]
+#[derive(Clone, Copy, Debug, PartialEq, Eq)]
 pub struct Levels {
     // under-voltage: where it trips, and where it releases
     pub trip: u16,
@@ -23,7 +23,7 @@ pub struct Levels {
 }
 
 // Temperatures in whole degrees Celsius.
-#[derive(Clone, Copy)]
+#[derive(Clone, Copy, Debug, PartialEq, Eq)]
 pub struct Degrees {
     // where each region above the coldest begins
     pub edges: [i8; 8],
@@ -38,7 +38,7 @@ pub struct Degrees {
 }
 
 // What the charger may give in a temperature region, and the over-voltage level there.
-#[derive(Clone, Copy)]
+#[derive(Clone, Copy, Debug, PartialEq, Eq)]
 pub struct Row {
     pub current: u16,
     pub voltage: u16,
@@ -46,13 +46,13 @@ pub struct Row {
 }
 
 // From each voltage up the charge current is cut to so many sixteenths.
-#[derive(Clone, Copy)]
+#[derive(Clone, Copy, Debug, PartialEq, Eq)]
 pub struct Steps {
     pub voltages: [u16; 4],
     pub ratios: [u8; 4],
 }
 
-#[derive(Clone, Copy)]
+#[derive(Clone, Copy, Debug, PartialEq, Eq)]
 pub struct Timing {
     // the delay word nDelayCfg
     pub delaycfg: u16,
@@ -60,7 +60,7 @@ pub struct Timing {
     pub enabled: u16,
 }
 
-#[derive(Clone, Copy)]
+#[derive(Clone, Copy, Debug, PartialEq, Eq)]
 pub struct Limits {
     pub levels: Levels,
     pub degrees: Degrees,

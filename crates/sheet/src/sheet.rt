@@ -6,7 +6,7 @@ use layout::Limits;
 
 mod methods;
 
-#[derive(Clone, Copy)]
+#[derive(Clone, Copy, Debug, PartialEq, Eq)]
 pub struct Sheet {
     pub limits: Limits,
     ghost valid: { sound limits ≡ true },

@@ -6,5 +6,5 @@ use Rattle.judging.proofs.ranges.check_ranges.Goals as goal
 pub returns : goal.returns
 returns c =
     let o = ranges_first c.args.l.now in
-    let rows = c.first_broken_row-rows.ensures row_ranges (λ place row found h post. search rules) in
+    let rows = c.first_broken_row-rows.ensures row_ranges (λ p found post. search rules) in
     search rules

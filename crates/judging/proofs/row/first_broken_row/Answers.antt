@@ -7,14 +7,14 @@ loop-i-init g c = λ rules posts. refl
 
 pub returns-then-is_some : goal.returns-then-is_some
 returns-then-is_some g c = λ rules posts.
-    let here = posts _ _ _ (omega arith) c.broken-found.ensures in
+    let here = posts _ _ c.broken-found.ensures in
     let o = row_step rules (56 + 6 * c.loop-i.i) c.args.rows.now c.loop-i.i (omega arith) in
     let inv = c.loop-i.invariant rules posts in
     grind arith
 
 pub loop-i-preserved : goal.loop-i-preserved
 loop-i-preserved g c = λ rules posts.
-    let here = posts _ _ _ (omega arith) c.broken-found.ensures in
+    let here = posts _ _ c.broken-found.ensures in
     let o = row_step rules (56 + 6 * c.loop-i.i) c.args.rows.now c.loop-i.i (omega arith) in
     let next : 56 + 6 * (c.loop-i.i + 1) ≡ 56 + 6 * c.loop-i.i + 6 = omega arith in
     let inv = c.loop-i.invariant rules posts in

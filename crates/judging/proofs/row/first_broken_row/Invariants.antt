@@ -1,4 +1,4 @@
-use Rattle.std.proofs.Common.{◌≡◌, ℕ, ◌+◌, ◌*◌, ◌<◌, List, drop}
+use Rattle.std.proofs.Common.{◌≡◌, ℕ, ◌+◌, ◌*◌, List, drop}
 use Rattle.layout.specs.declared.limits.Row.{Row}
 use Rattle.layout.specs.declared.rule.Rule.{Rule}
 use Rattle.layout.specs.Rules.{first_broken, each_row}
@@ -8,5 +8,5 @@ use Rattle.judging.proofs.row.first_broken_row.Given as goal
 abbrev pub invariant-loop-i : goal.invariant-loop-i
 invariant-loop-i g l =
     (rules : ℕ → Row → List Rule)
-    → ((place : ℕ) (row : _) (found : _) → place < 200 → goal.F-post g l.broken (place) row found → found ≡ first_broken (rules place row.now))
+    → ((p : _) (found : _) → goal.F-post g l.broken p found → found ≡ first_broken (rules p.place p.row))
     → first_broken (each_row rules (56 + 6 * l.i) (drop l.i l.rows)) ≡ first_broken (each_row rules 56 l.rows)
