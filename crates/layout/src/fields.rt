@@ -22,6 +22,7 @@ fn signed_at(image: &[u8; IMAGE], at: usize) -> i8
     image[at].cast_signed()
 }
 
+// Field by field, as the image has them: a loop over the places would hide which field stands where.
 fn read_levels(image: &[u8; IMAGE]) -> Levels
     ensures { result ≡ levels_of image.now }
 {

@@ -45,7 +45,8 @@ pub struct Row {
     pub level: u16,
 }
 
-// From each voltage up the charge current is cut to so many sixteenths.
+// From each voltage up the charge current is cut to so many sixteenths. Two tables, as in the image: each has an order and places of
+// its own, and pairs would have to be taken apart for each rule.
 #[derive(Clone, Copy, Debug, PartialEq, Eq)]
 pub struct Steps {
     pub voltages: [u16; 4],

@@ -3,6 +3,7 @@ ghost use Rattle.std.specs.Prelude.{◌≡◌, ◌≤◌, length, take, sum};
 
 use super::fields::IMAGE;
 
+// A function of its own: over a part of an array the bound of `sum` gets no proof, and here the length bounds it.
 fn total(bytes: &[u8]) -> u16
     requires { length bytes.now ≤ 257 }
     ensures { result ≡ sum bytes.now }
