@@ -1,3 +1,3 @@
 pub mod Exact
-pub mod Loops
+pub mod Folded
 pub mod Order

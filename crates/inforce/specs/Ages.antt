@@ -1,5 +1,5 @@
 -- How a reading moves the ages of the rows, and the level that the ages put in force.
-use Rattle.std.specs.Prelude.{ℕ, ◌+◌, min, max, Bool, cond, List, [], ◌∷◌, map, replicate, nat_lt, slice_set}
+use Rattle.std.specs.Prelude.{ℕ, ◌+◌, min, max, Bool, if◌then◌else◌, List, [], ◌∷◌, map, replicate, nat_lt, slice_set}
 
 -- a reading, by the row of the table that it fell in and the time since the reading before it
 pub record Mark : Type 0 where
@@ -25,7 +25,7 @@ ages_of (m ∷ older) = aged m.row m.elapsed (ages_of older)
 
 -- a row's level counts if the row is young
 abbrev pub raised_by : Bool → ℕ → ℕ → ℕ
-raised_by young level best = cond young (max best level) best
+raised_by young level best = if young then max best level else best
 
 -- the greatest among a reading's own level and the levels of the rows that are younger than the delay
 abbrev pub level_in_force : ℕ → ℕ → List ℕ → List ℕ → ℕ

@@ -4,15 +4,15 @@
 // included, total less than the transition delay. One age for each row is all that has to be kept.
 #![tactic(auto)]
 
-ghost use Rattle.std.specs.Prelude.{◌≡◌, map, nat_lt, slice_set};
-ghost use Rattle.inforce.specs.Ages.{unseen, older_by, aged, raised_by, level_in_force};
+ghost use Rattle.std.specs.Prelude.{◌≡◌};
+ghost use Rattle.inforce.specs.Ages.{unseen, aged, level_in_force};
 ghost use Rattle.inforce.specs.Level.{LevelExact, LevelOrdered};
 
 // The rows of the level table, one for each range of temperature.
 pub const ROWS: usize = 7;
 
 // For each row, the milliseconds since its newest reading, never past u32::MAX.
-#[derive(Clone, Copy)]
+#[derive(Clone, Copy, Debug, PartialEq, Eq)]
 pub struct Ages {
     pub table: [u32; ROWS],
 }
@@ -31,61 +31,26 @@ impl Ages {
     pub fn pass(&mut self, row: usize, elapsed: u16)
         ensures { self.new.table ≡ aged row elapsed self.old.table }
     {
-        self.table = restarted(older(&self.table, elapsed), row);
+        self.table = self.table.map(|age| age.saturating_add(u32::from(elapsed)));
+        // The newest reading of a row is the only one that matters, so its age starts over.
+        if row < ROWS {
+            self.table[row] = 0;
+        }
     }
 
-    // The level in force after a reading that has the level `own`, by the rows' levels and the transition delay.
+    // The level in force after a reading that has the level `own`, by the rows' levels and the transition delay: the greatest among
+    // `own` and the levels of the rows that are younger than the delay.
     pub fn level(&self, own: u16, levels: &[u16; ROWS], delay: u32) -> u16
         ensures value { result ≡ level_in_force delay own self.now.table levels.now }
         ensures exact { LevelExact delay own self.now.table levels.now result }
         ensures ordered { LevelOrdered delay result }
     {
-        greatest(own, &self.table, levels, delay)
-    }
-}
-
-// Every row grows older, seen or not.
-fn older(ages: &[u32; ROWS], elapsed: u16) -> [u32; ROWS]
-    ensures { result ≡ map (older_by elapsed) ages.now }
-{
-    let mut table = *ages;
-    for row in 0..ROWS {
-        table[row] = table[row].saturating_add(u32::from(elapsed));
-    }
-    table
-}
-
-// The newest reading of a row is the only one that matters, so its age starts over.
-fn restarted(mut ages: [u32; ROWS], row: usize) -> [u32; ROWS]
-    ensures { result ≡ slice_set ages row 0 }
-{
-    if row < ROWS {
-        ages[row] = 0;
-    }
-    ages
-}
-
-// The greatest among `own` and the levels of the young rows.
-fn greatest(own: u16, ages: &[u32; ROWS], levels: &[u16; ROWS], delay: u32) -> u16
-    ensures value { result ≡ level_in_force delay own ages.now levels.now }
-    ensures exact { LevelExact delay own ages.now levels.now result }
-    ensures ordered { LevelOrdered delay result }
-{
-    let mut best = own;
-    for k in 0..ROWS {
-        best = raised(best, levels[k], ages[k], delay);
-    }
-    best
-}
-
-// A row's level counts if the row is younger than the delay.
-fn raised(best: u16, level: u16, age: u32, delay: u32) -> u16
-    ensures { result ≡ raised_by (nat_lt age delay) level best }
-{
-    if age < delay && best < level {
-        level
-    } else {
-        best
+        self.table
+            .iter()
+            .zip(levels)
+            .fold(own, |greatest, (age, level)| {
+                greatest.max(if *age < delay { *level } else { 0 })
+            })
     }
 }
 

@@ -1,10 +1,14 @@
 -- The mask of the faults, bit by bit.
-use Rattle.std.proofs.Common.{◌≡◌, ℕ, zero, suc, ◌+◌, ◌-◌, ◌*◌, ◌/◌, ◌%◌, ◌^◌, ◌<◌, ◌≤◌, Bool, true, false, cond, List, [], ◌∷◌, length, get_or, drop, sym, ap, ◌∙◌, mul_comm, pow-suc, div-one, arith, drop-cons, pow_pos}
+use Rattle.std.proofs.Common.{◌≡◌, ℕ, zero, suc, ◌+◌, ◌*◌, ◌/◌, ◌%◌, ◌^◌, ◌<◌, ◌≤◌, Bool, true, false, cond, List, [], ◌∷◌, length, reverse, bit_or, sym, refl, ap, ◌∙◌, mul_comm, pow-suc, div-one, arith, pow_pos}
+use Rattle.std.specs.List.{fold}
+use Rattle.std.proofs.lemmas.List.{reverse-append}
+use Rattle.std.proofs.lemmas.List.Sums.{fold-append}
+use Rattle.std.proofs.lemmas.Grind.{or_after_shift}
 use native.Mathlib.Nat.{zero-div, div-div-eq-div-mul}
 use Rattle.std.proofs.lemmas.Nat.{div-mul-add, mod-mul-add}
 use Rattle.timing.specs.Mask.{mask_of, BitsOf}
 
-pub mask_lt : (bs : List Bool) (n : ℕ) → length bs ≤ n → mask_of bs < 2 ^ n
+mask_lt : (bs : List Bool) (n : ℕ) → length bs ≤ n → mask_of bs < 2 ^ n
 mask_lt [] n h = pow_pos n
 mask_lt (b ∷ bs) zero h = absurd (omega arith)
 mask_lt (b ∷ bs) (suc n) h =
@@ -13,17 +17,20 @@ mask_lt (b ∷ bs) (suc n) h =
       | false ↦ omega (arith, mask_lt bs n (omega arith), pow-suc 2 n)
     ]
 
--- one bit more, from the top down
-pub mask_down : (bs : List Bool) (k m : ℕ) → 0 < k → k ≤ length bs → m ≡ mask_of (drop k bs) → m * 2 + cond (get_or bs (k - 1) false) 1 0 ≡ mask_of (drop (k - 1) bs)
-mask_down bs k m z l e =
-    let s : suc (k - 1) ≡ k = omega arith in
-    let more = ap mask_of (drop-cons bs (k - 1) false (omega arith)) in
-    let back : mask_of (drop (suc (k - 1)) bs) ≡ m = ap (λ i. mask_of (drop i bs)) s ∙ sym e in
-    omega (arith, more, back)
-
 bit_small : (b : Bool) → cond b 1 0 < 2
 bit_small true = omega arith
 bit_small false = omega arith
+
+-- the word moved up by one bit, with the fault as its lowest
+abbrev pub with_bit : ℕ → Bool → ℕ
+with_bit word fault = bit_or (word * 2 % 65536) (cond fault 1 0)
+
+-- from the top down
+pub mask_folds : (bs : List Bool) → length bs ≤ 16 → fold with_bit 0 (reverse bs) ≡ mask_of bs
+mask_folds [] h = refl
+mask_folds (b ∷ bs) h =
+    let small : mask_of bs < 2 ^ 15 = mask_lt bs 15 (omega arith) in
+    ap (fold with_bit 0) (reverse-append (b ∷ []) bs) ∙ fold-append with_bit 0 (reverse bs) (b ∷ []) ∙ ap (λ w. with_bit w b) (mask_folds bs (omega arith)) ∙ or_after_shift (mask_of bs) 2 65536 (cond b 1 0) refl (bit_small b) (omega arith)
 
 pub mask_bits : (bs : List Bool) → BitsOf bs (mask_of bs)
 mask_bits [] k = ap (λ q. q % 2) (zero-div (2 ^ k))

@@ -1,5 +1,5 @@
 -- How a reading moves the watch of a fault, and the whole table of watches.
-use Rattle.std.specs.Prelude.{ℕ, ◌+◌, min, Bool, false, cond, not, ◌&&◌, ◌||◌, List, [], ◌∷◌, map, replicate, nat_le}
+use Rattle.std.specs.Prelude.{ℕ, ◌+◌, min, Bool, false, if◌then◌else◌, not, ◌&&◌, ◌||◌, List, [], ◌∷◌, map, replicate, nat_le}
 use Rattle.timing.specs.declared.Watch.{Watch}
 use Rattle.timing.specs.declared.Observation.{Observation}
 
@@ -14,7 +14,7 @@ all_idle = replicate 13 idle
 -- how long the fault has been tripped without a break: it saturates at the greatest u32, and a reading that does not trip
 -- sets it back
 abbrev pub held_after : Observation → ℕ → ℕ
-held_after o held = cond o.trips (min (held + o.elapsed) 4294967295) 0
+held_after o held = if o.trips then min (held + o.elapsed) 4294967295 else 0
 
 -- a fault starts to stand when it has been held for its delay, and then stands until a reading releases it
 abbrev pub stepped : ℕ → Observation → Watch → Watch
