@@ -1,22 +1,14 @@
 -- The sample sheet and the same one with a shorter watchdog.
-use Rattle.std.proofs.Common.{refl}
-use Rattle.std.proofs.lemmas.Bool.{leb-true, le-leb, false≢true}
-use Rattle.delays.specs.declared.Timer.TheVariants.{Undervoltage, Shutdown, Temperature, Transition, Permanent, Overcurrent, Overvoltage, Full, Watchdog}
+use Rattle.std.proofs.Common.{refl, arith}
+use Rattle.delays.specs.declared.Timer.TheVariants.{Watchdog}
 use Rattle.delays.specs.Delays.{SettingsNoLower}
+use Rattle.delays.proofs.Rising.{settings_decide}
 use Rattle.order.specs.Generous.{Generous}
 use Rattle.order.proofs.Ordering.{reflexive}
 use Rattle.cases.specs.Sample.{sample, short_watchdog}
 
 no_lower : SettingsNoLower 693 17077
-no_lower Undervoltage = leb-true _ _ refl
-no_lower Shutdown = leb-true _ _ refl
-no_lower Temperature = leb-true _ _ refl
-no_lower Transition = leb-true _ _ refl
-no_lower Permanent = leb-true _ _ refl
-no_lower Overcurrent = leb-true _ _ refl
-no_lower Overvoltage = leb-true _ _ refl
-no_lower Full = leb-true _ _ refl
-no_lower Watchdog = leb-true _ _ refl
+no_lower = (settings_decide 693 17077).0 refl
 
 -- all but the delays is as between the sample and itself
 pub generous : Generous sample short_watchdog
@@ -50,4 +42,4 @@ generous =
 
 -- the sample's watchdog is set to 1, the other's to 0
 pub not_back : Generous short_watchdog sample → ⊥
-not_back g = false≢true (le-leb 1 0 (g.settings Watchdog))
+not_back g = absurd (omega (arith, g.settings Watchdog))
