@@ -1,3 +1,4 @@
 pub mod Spares
+pub mod Outcomes
 pub mod Exact
 pub mod Ranges
