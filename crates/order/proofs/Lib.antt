@@ -1,4 +1,3 @@
 pub mod Below
 pub mod Degrees
 pub mod Ordering
-pub mod Signed

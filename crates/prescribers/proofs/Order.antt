@@ -1,6 +1,7 @@
 -- The usual stack of a sheet that is at least as generous never gives less.
 use Rattle.std.proofs.Common.{◌≡◌, ℕ, zero, suc, ◌<◌, ◌≤◌, cond, nat_le, List, [], ◌∷◌, length, slice_index, le_trans, le_refl, arith}
 use Rattle.std.proofs.lemmas.Bool.Decides.{nat_tests}
+use Rattle.std.proofs.lemmas.List.Sums.{count_by-le-length, sum_by-cons}
 use Rattle.sheet.specs.declared.sheet.Sheet.{Sheet}
 use Rattle.sheet.specs.Charging.{precharge_below, precharge_most}
 use Rattle.sheet.proofs.Facts.{lengths, ratios_small, ratios_fall}
@@ -27,14 +28,7 @@ fewer_steps (x ∷ xs) [] v e h = absurd (omega arith)
 fewer_steps (x ∷ xs) (y ∷ ys) v e h =
     let first = one_step x y v (h 0 (omega arith)) in
     let rest = fewer_steps xs ys v (omega arith) (λ k l. h (suc k) (omega arith)) in
-    omega arith
-
-steps_count : (xs : List ℕ) (v : ℕ) → steps_reached xs v ≤ length xs
-steps_count [] v = le_refl 0
-steps_count (x ∷ xs) v =
-    let rest = steps_count xs v in
-    let one : cond (nat_le x v) 1 0 ≤ 1 = grind (arith, nat_tests) in
-    omega arith
+    simp sum_by-cons (omega arith)
 
 -- fewer steps of higher ratios leave no less
 ratio-ordered : (m n : ℕ) (xs ys : List ℕ) → n ≤ m → n ≤ 4 → ((i : ℕ) → slice_index xs i ≤ 16) → ((i j : ℕ) → i ≤ j → slice_index xs j ≤ slice_index xs i) → ((k : ℕ) → k < 4 → slice_index xs k ≤ slice_index ys k) → ratio_after m xs ≤ ratio_after n ys
@@ -57,7 +51,7 @@ module _ (a b : Sheet) (g : Generous b.limits a.limits) where
       let lb = lengths b.limits b.sized in
       ratio-ordered (steps_reached p.voltages v) (steps_reached q.voltages v) p.ratios q.ratios
       (fewer_steps p.voltages q.voltages v (omega (arith, la.voltages, lb.voltages)) (λ k h. g.voltages k (omega (arith, la.voltages))))
-      (omega (arith, steps_count q.voltages v, lb.voltages))
+      (omega (arith, count_by-le-length (λ s. nat_le s v) q.voltages, lb.voltages))
       (ratios_small a.limits a.valid a.sized)
       (ratios_fall a.limits a.valid a.sized)
       g.ratios

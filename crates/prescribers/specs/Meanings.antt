@@ -1,5 +1,5 @@
 -- What each prescriber gives, and what each limiter makes of a pair from below.
-use Rattle.std.specs.Prelude.{ℕ, ◌+◌, ◌-◌, ◌*◌, ◌/◌, ◌≤◌, min, cond, List, [], ◌∷◌, ◌==◌, nat_le, nat_lt, slice_index}
+use Rattle.std.specs.Prelude.{ℕ, ◌-◌, ◌*◌, ◌/◌, ◌≤◌, min, cond, List, ◌==◌, nat_le, nat_lt, slice_index, count_by}
 use Rattle.sheet.specs.declared.limits.Steps.{Steps}
 use Rattle.sheet.specs.declared.limits.Limits.{Limits}
 use Rattle.reading.specs.declared.reading.Reading.{Reading}
@@ -12,8 +12,7 @@ zone_gives l r = record { current = zone_current l r.cell; voltage = zone_voltag
 
 -- how many of the step voltages are at most v
 abbrev pub steps_reached : List ℕ → ℕ → ℕ
-steps_reached [] v = 0
-steps_reached (s ∷ ss) v = cond (nat_le s v) 1 0 + steps_reached ss v
+steps_reached ss v = count_by (λ s. nat_le s v) ss
 
 -- the ratio after k steps, in sixteenths: all sixteen before the first, and then the k-th, whose index is k - 1
 abbrev pub ratio_after : ℕ → List ℕ → ℕ

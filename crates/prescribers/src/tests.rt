@@ -28,13 +28,18 @@ fn stack_at_room(rt: HostRuntime) -> Result<(), Fail> {
     Ok(())
 }
 
+const NOTHING: Prescription = Prescription {
+    current: 0,
+    voltage: 0,
+};
+
 #[test]
 fn nothing_at_the_ends(rt: HostRuntime) -> Result<(), Fail> {
     let sheet = Sheet::decode(SAMPLE)?;
     let cold = usual_prescription(&sheet, &at(3700, -1281));
     let hot = usual_prescription(&sheet, &at(3700, 14080));
-    assert_eq!(rt; (cold.current, cold.voltage), (0, 0));
-    assert_eq!(rt; (hot.current, hot.voltage), (0, 0));
+    assert_eq!(rt; cold, NOTHING);
+    assert_eq!(rt; hot, NOTHING);
     Ok(())
 }
 
