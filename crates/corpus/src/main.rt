@@ -3,7 +3,7 @@
 #![tactic(auto)]
 
 use pack::Pack;
-use prescribers::{UsualStack, usual};
+use prescribers::usual;
 use sheet::{Sheet, Verdict};
 use std::io;
 use std::io::{BufReader, BufWriter, ErrorKind, Read, Write};
@@ -24,64 +24,38 @@ fn read_count<R: Read>(input: &mut R) -> io::Result<u16> {
     Ok(u16::from_le_bytes(count))
 }
 
-// Hands each record to a new pack, and prints its answer.
-fn answer_all<R: Read, W: Write>(
-    sheet: Sheet,
-    count: u16,
-    input: &mut R,
-    buffer: &mut [u8; 255],
-    out: &mut W,
-) -> io::Result<()> {
-    let mut pack = Pack::new(sheet, usual(&sheet));
-    for _ in 0..count {
-        let record = read_frame(input, buffer)?;
-        let answer = pack.call(record);
-        writeln!(out, "{answer}")?;
-    }
-    Ok(())
-}
-
-// Reads over the records that come after a refused image.
-fn skip_all<R: Read>(count: u16, input: &mut R, buffer: &mut [u8; 255]) -> io::Result<()> {
-    for _ in 0..count {
-        read_frame(input, buffer)?;
-    }
-    Ok(())
-}
-
-// Judges the image of one case, and answers its records.
-fn run_case<R: Read, W: Write>(
-    input: &mut R,
-    buffer: &mut [u8; 255],
-    out: &mut W,
-) -> io::Result<()> {
-    let judged = Sheet::decode(read_frame(input, buffer)?);
-    let verdict = Verdict::of(&judged);
+// Judges the image of one case, and answers its records by a new pack. Those that come after a refused image are read over.
+fn run_case<R: Read, W: Write>(input: &mut R, out: &mut W) -> io::Result<()> {
+    // room for the longest frame
+    let mut buffer = [0u8; 255];
+    let judged = Sheet::decode(read_frame(input, &mut buffer)?);
+    let verdict = Verdict::from(&judged);
     writeln!(out, "{verdict}")?;
-    let count = read_count(input)?;
-    match judged {
-        Ok(sheet) => answer_all(sheet, count, input, buffer, out),
-        Err(_) => skip_all(count, input, buffer),
+    let mut pack = judged.ok().map(|sheet| Pack::new(sheet, usual(&sheet)));
+    for _ in 0..read_count(input)? {
+        let record = read_frame(input, &mut buffer)?;
+        if let Some(pack) = &mut pack {
+            let answer = pack.call(record);
+            writeln!(out, "{answer}")?;
+        }
     }
+    Ok(())
 }
 
 // Runs case after case until the input ends, which it may do anywhere: a frame that is cut short has no line.
-fn run<R: Read, W: Write>(input: &mut R, buffer: &mut [u8; 255], out: &mut W) -> io::Result<()> {
+fn run<R: Read, W: Write>(input: &mut R, out: &mut W) -> io::Result<()> {
     for _ in 0..u64::MAX {
-        match run_case(input, buffer, out) {
-            Ok(()) => {}
+        match run_case(input, out) {
             Err(e) if e.kind() == ErrorKind::UnexpectedEof => break,
-            Err(e) => return Err(e),
+            ended => ended?,
         }
     }
     Ok(())
 }
 
 fn main(rt: HostRuntime) -> io::Result<()> {
-    // room for the longest frame
-    let mut buffer = [0u8; 255];
     let mut input = BufReader::new(rt.alloc(), rt.stdin())?;
     let mut out = BufWriter::new(rt.alloc(), rt.stdout())?;
-    run(&mut input, &mut buffer, &mut out)?;
+    run(&mut input, &mut out)?;
     out.flush()
 }
