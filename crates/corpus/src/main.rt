@@ -44,6 +44,7 @@ fn run_case<R: Read, W: Write>(input: &mut R, out: &mut W) -> io::Result<()> {
 
 // Runs case after case until the input ends, which it may do anywhere: a frame that is cut short has no line.
 fn run<R: Read, W: Write>(input: &mut R, out: &mut W) -> io::Result<()> {
+    // no input reaches this bound: every function has to end
     for _ in 0..u64::MAX {
         match run_case(input, out) {
             Err(e) if e.kind() == ErrorKind::UnexpectedEof => break,

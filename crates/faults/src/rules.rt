@@ -13,7 +13,8 @@ fn is_warm_again(t: i16, degree: i8, hysteresis: u8) -> bool
     i32::from(degree) * 256 + i32::from(hysteresis) * 256 <= i32::from(t)
 }
 
-// The temperature has fallen from the degree to past the hysteresis.
+// The temperature has fallen from the degree to past the hysteresis. Sign and comparison differ from those above, and not a type or a
+// constant, so that one function of both would be no plainer.
 fn is_cool_again(t: i16, degree: i8, hysteresis: u8) -> bool
     ensures { result ≡ int_lt t (fine degree -ℤ margin hysteresis) }
 {

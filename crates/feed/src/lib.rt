@@ -16,6 +16,7 @@ pub fn fill<'a, R: Read>(input: &mut R, buffer: &'a mut [u8]) -> io::Result<&'a 
     ensures { IfOk result (λ came. length came.now ≤ length buffer.old) }
 {
     let mut have = 0;
+    // counted by hand, since a read says only how many bytes came: there is no list to go over
     while have < buffer.len() {
         let n = input.read(&mut buffer[have..])?;
         if n == 0 {
