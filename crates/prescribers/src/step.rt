@@ -17,12 +17,15 @@ pub struct Step<P: Prescriber> {
     ghost ratios: { InSixteenths steps },
 }
 
-// How many of the step voltages the voltage has reached.
+// How many of the step voltages the voltage has reached, added up as reading counts the edges.
 fn count_reached(voltages: &[u16; 4], voltage: u16) -> usize
     ensures value { result ≡ steps_reached voltages.now voltage }
     ensures bound { result ≤ 4 }
 {
-    voltages.iter().filter(|step| **step <= voltage).count()
+    voltages
+        .iter()
+        .map(|step| usize::from(*step <= voltage))
+        .sum()
 }
 
 // How many sixteenths are left of the current: the ratio of the last step that is reached, and all of it before the first.
