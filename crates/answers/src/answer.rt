@@ -39,8 +39,8 @@ impl Answer {
         u8::from(self.charge) + 2 * u8::from(self.discharge)
     }
 
-    // The twelve bytes of the answer. Words have the low byte first, and the region is in two's complement. The printed
-    // line tells the same numbers.
+    // The twelve bytes of the answer. Words have the low byte first, and the region is in two's complement. The printed line tells the same
+    // numbers. A method and no From, so that both of its promises are clauses with names.
     pub fn bytes(&self) -> [u8; 12]
         ensures value { result ≡ bytes_of self.now }
         ensures told { line_at result ≡ line_of self.now }

@@ -22,7 +22,8 @@ fn parse_record(bytes: &[u8; RECORD]) -> Result<Call, Rejection>
     }
 }
 
-// The call that a record asks for, or the first refusal that the record is owed.
+// The call that a record asks for, or the first refusal that the record is owed. A function and no TryFrom, so that each of its three
+// promises is a clause with a name.
 pub fn parse(bytes: &[u8]) -> Result<Call, Rejection>
     ensures value { result ≡ parsed bytes.now }
     ensures exact { ParsedExactly bytes.now result }
@@ -38,7 +39,7 @@ pub fn parse(bytes: &[u8]) -> Result<Call, Rejection>
 mod tests {
     use super::*;
 
-    // The number of the refusal of a record, or 0.
+    // The number of the refusal of a record, or 0, as an answer's line has it.
     fn refusal(bytes: &[u8]) -> u8 {
         match parse(bytes) {
             Ok(_) => 0,

@@ -6,7 +6,7 @@ use Rattle.sheet.specs.Decoded.{contents, summed, ranges, conflicts, decoded}
 use Rattle.faults.specs.Observed.{observations, fault_delays}
 use Rattle.calls.specs.Parsed.{parsed}
 use Rattle.pack.specs.Steps.{reads}
-use Rattle.cases.specs.Sample.{sample_image}
+use Rattle.sample.specs.Sample.{sample_image}
 use Rattle.cases.specs.Cases.{WorkedCases, MoreWorkedCases}
 use Rattle.cases.proofs.Order.{generous, not_back}
 

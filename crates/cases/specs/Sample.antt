@@ -1,11 +1,7 @@
--- The sample sheet that is shipped: its image, byte by byte, and its limits. Voltages are in mV, currents in mA, degrees in °C.
+-- The limits of the sample sheet. Voltages are in mV, currents in mA, degrees in °C.
 use Rattle.std.specs.Prelude.{ℕ, List, [], ◌∷◌, pos, neg_ℤ}
 use Rattle.sheet.specs.declared.limits.Row.{Row}
 use Rattle.sheet.specs.declared.limits.Limits.{Limits}
-
--- samples/sample.sheet
-abbrev pub sample_image : List ℕ
-sample_image = 1 ∷ 5 ∷ 1 ∷ 22 ∷ 22 ∷ 0 ∷ 2 ∷ 12 ∷ 44 ∷ 0 ∷ 3 ∷ 42 ∷ 56 ∷ 0 ∷ 4 ∷ 12 ∷ 98 ∷ 0 ∷ 5 ∷ 4 ∷ 110 ∷ 0 ∷ 240 ∷ 10 ∷ 184 ∷ 11 ∷ 196 ∷ 9 ∷ 100 ∷ 0 ∷ 148 ∷ 17 ∷ 208 ∷ 7 ∷ 160 ∷ 15 ∷ 54 ∷ 16 ∷ 100 ∷ 0 ∷ 60 ∷ 0 ∷ 31 ∷ 8 ∷ 251 ∷ 0 ∷ 5 ∷ 15 ∷ 35 ∷ 45 ∷ 50 ∷ 55 ∷ 65 ∷ 85 ∷ 75 ∷ 3 ∷ 100 ∷ 0 ∷ 160 ∷ 15 ∷ 54 ∷ 16 ∷ 200 ∷ 0 ∷ 210 ∷ 15 ∷ 104 ∷ 16 ∷ 244 ∷ 1 ∷ 4 ∷ 16 ∷ 154 ∷ 16 ∷ 232 ∷ 3 ∷ 104 ∷ 16 ∷ 204 ∷ 16 ∷ 32 ∷ 3 ∷ 54 ∷ 16 ∷ 154 ∷ 16 ∷ 144 ∷ 1 ∷ 210 ∷ 15 ∷ 54 ∷ 16 ∷ 200 ∷ 0 ∷ 160 ∷ 15 ∷ 4 ∷ 16 ∷ 216 ∷ 14 ∷ 110 ∷ 15 ∷ 210 ∷ 15 ∷ 24 ∷ 16 ∷ 14 ∷ 12 ∷ 10 ∷ 8 ∷ 181 ∷ 66 ∷ 255 ∷ 31 ∷ 252 ∷ 26 ∷ []
 
 abbrev row : ℕ → ℕ → ℕ → Row
 row c v l = record { current = c; voltage = v; level = l }

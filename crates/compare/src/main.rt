@@ -10,7 +10,8 @@ use std::io;
 use std::io::{BufWriter, Read, Write};
 use tighter::call_both;
 
-// Reads an image, and prints how it was judged after the name that it goes by.
+// Reads an image, and prints how it was judged after the name that it goes by. Input and output are two parameters of two functions: a
+// struct of both would have more lines than it saves.
 fn read_sheet<R: Read, W: Write>(
     name: &str,
     input: &mut R,

@@ -24,7 +24,8 @@ fn read_count<R: Read>(input: &mut R) -> io::Result<u16> {
     Ok(u16::from_le_bytes(count))
 }
 
-// Judges the image of one case, and answers its records by a new pack. Those that come after a refused image are read over.
+// Judges the image of one case, and answers its records by a new pack. Those that come after a refused image are read over. Input and
+// output stay two parameters: a struct of both that lends the frame was tried, and gets no proof.
 fn run_case<R: Read, W: Write>(input: &mut R, out: &mut W) -> io::Result<()> {
     // room for the longest frame
     let mut buffer = [0u8; 255];

@@ -16,18 +16,10 @@ pub use waiting::delays;
 mod tests {
     use super::{Fault, observe};
     use reading::{Prepared, Reading, Region};
+    use sample::sample_image;
     use sheet::Sheet;
     use std::test::Fail;
     use timing::Observation;
-
-    // Charging from -5 to 55 degrees, hysteresis 3; over-voltage releases 100 mV below its level; at most 4000 mA out.
-    const SAMPLE: [u8; 116] =
-        *b"\x01\x05\x01\x16\x16\x00\x02\x0c\x2c\x00\x03\x2a\x38\x00\x04\x0c\x62\x00\x05\x04\x6e\x00\
-        \xf0\x0a\xb8\x0b\xc4\x09\x64\x00\x94\x11\xd0\x07\xa0\x0f\x36\x10\x64\x00\x3c\x00\x1f\x08\
-        \xfb\x00\x05\x0f\x23\x2d\x32\x37\x41\x55\x4b\x03\
-        \x64\x00\xa0\x0f\x36\x10\xc8\x00\xd2\x0f\x68\x10\xf4\x01\x04\x10\x9a\x10\xe8\x03\x68\
-        \x10\xcc\x10\x20\x03\x36\x10\x9a\x10\x90\x01\xd2\x0f\x36\x10\xc8\x00\xa0\x0f\x04\x10\
-        \xd8\x0e\x6e\x0f\xd2\x0f\x18\x10\x0e\x0c\x0a\x08\xb5\x42\xff\x1f\xfc\x1a";
 
     const READING: Reading = Reading {
         elapsed: 100,
@@ -60,7 +52,7 @@ mod tests {
     // One 256th of a degree decides, below zero too.
     #[test]
     fn temperatures(rt: HostRuntime) -> Result<(), Fail> {
-        let sheet = Sheet::decode(&SAMPLE)?;
+        let sheet = Sheet::decode(&sample_image())?;
         assert!(rt; at_cell(&sheet, Fault::TooColdCharge, -1281).trips);
         assert!(rt; !at_cell(&sheet, Fault::TooColdCharge, -1280).trips);
         assert!(rt; at_cell(&sheet, Fault::TooColdCharge, -512).releases);
@@ -74,7 +66,7 @@ mod tests {
 
     #[test]
     fn voltages_and_currents(rt: HostRuntime) -> Result<(), Fail> {
-        let sheet = Sheet::decode(&SAMPLE)?;
+        let sheet = Sheet::decode(&sample_image())?;
         assert!(rt; at_voltage(&sheet, Fault::Overvoltage, 4301).trips);
         assert!(rt; !at_voltage(&sheet, Fault::Overvoltage, 4300).trips);
         assert!(rt; at_voltage(&sheet, Fault::Overvoltage, 4200).releases);
@@ -103,7 +95,7 @@ mod tests {
             .trips
         );
         // without bit 2 of the enable word, and the sum mended
-        let mut image = SAMPLE;
+        let mut image = sample_image();
         image[112] = 0xfb;
         image[114] = 0xf8;
         assert!(rt; !at_voltage(&Sheet::decode(&image)?, Fault::Overvoltage, 5000).trips);

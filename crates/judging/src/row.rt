@@ -7,7 +7,7 @@ ghost use Rattle.layout.specs.Rules.{first_broken, each_row};
 use layout::Row;
 
 // A row and the place of its first byte, which is so low that the places of the row's fields fit a byte.
-#[derive(Clone, Copy)]
+#[derive(Clone, Copy, Debug, PartialEq, Eq)]
 pub(crate) struct Placed {
     pub(crate) place: u8,
     pub(crate) row: Row,

@@ -22,7 +22,8 @@ pub enum Refusal {
 }
 
 impl Refusal {
-    // The first wrong entry, the first byte of the wrong field, or 0 where the number says it all.
+    // The first wrong entry, the first byte of the wrong field, or 0 where the number says it all. No Option: 0 is how the format says that
+    // there is no place, and whoever prints it would turn a None into that 0 again.
     pub fn place(&self) -> u8
         ensures { result ≡ place_of self.now }
     {

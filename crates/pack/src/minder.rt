@@ -7,7 +7,7 @@ use prescribers::Prescriber;
 
 mod methods;
 
-#[derive(Drop)]
+#[derive(Debug, Drop)]
 pub struct Pack<P: Prescriber> {
     timed: TimedSheet,
     prescriber: P,

@@ -13,7 +13,7 @@ use timing::Watches;
 // The host limit, in mA, before the host says one: the widest that a record can bring.
 const WIDEST: u16 = 20000;
 
-#[derive(Clone, Copy)]
+#[derive(Clone, Copy, Debug, PartialEq, Eq)]
 pub struct State {
     // one watch for each fault, moved by every accepted reading since the last accepted clear
     pub watches: Watches,

@@ -8,7 +8,7 @@ use sheet::Sheet;
 use timing::FAULTS;
 
 // How long each fault waits, and the level in force; and the over-voltage level of each row.
-#[derive(Clone, Copy)]
+#[derive(Clone, Copy, Debug, PartialEq, Eq)]
 pub struct Waits {
     // the delay of each fault, in ms
     pub faults: [u32; FAULTS],
@@ -18,7 +18,7 @@ pub struct Waits {
     pub levels: [u16; ROWS],
 }
 
-#[derive(Clone, Copy)]
+#[derive(Clone, Copy, Debug, PartialEq, Eq)]
 pub struct TimedSheet {
     pub sheet: Sheet,
     pub waits: Waits,

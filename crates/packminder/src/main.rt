@@ -9,7 +9,7 @@ use std::io;
 use std::io::{BufWriter, Read, Write};
 
 // Judges the image, and minds a new pack until the input ends if it makes a sheet. A record that was cut short goes to the pack too,
-// which refuses it.
+// which refuses it. tally begins alike: what the two share is what they read and print, of which no contract of a function could speak.
 fn run<R: Read, W: Write>(input: &mut R, out: &mut W) -> io::Result<()> {
     let mut image = [0u8; IMAGE];
     let judged = Sheet::decode(fill(input, &mut image)?);

@@ -5,7 +5,7 @@ use super::prescription::Prescription;
 
 mod methods;
 
-#[derive(Clone, Copy)]
+#[derive(Clone, Copy, Debug, PartialEq, Eq)]
 pub struct Flat {
     pair: Prescription,
     ghost ranged: { InRange pair },

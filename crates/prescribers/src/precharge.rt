@@ -10,7 +10,7 @@ use super::prescription::Prescription;
 use reading::Reading;
 use sheet::Sheet;
 
-#[derive(Drop)]
+#[derive(Debug, Drop)]
 pub struct Precharge<P: Prescriber> {
     below: P,
     // the cell is precharged as long as its voltage is below this, in mV,
@@ -38,6 +38,7 @@ impl<P: Prescriber> Prescriber for Precharge<P> {
 
     ghost ranged = { Prim.search rules };
 
+    // The same line as in Step: a trait cannot write a function of the trait that it stands on.
     fn prescribe(&self, r: &Reading) -> Prescription {
         self.lower(r, self.below.prescribe(r))
     }

@@ -9,7 +9,7 @@ use super::prescription::Prescription;
 use reading::Reading;
 use sheet::{Sheet, Steps, share};
 
-#[derive(Drop)]
+#[derive(Debug, Drop)]
 pub struct Step<P: Prescriber> {
     below: P,
     steps: Steps,
@@ -41,6 +41,7 @@ fn sixteenths(steps: &Steps, voltage: u16) -> u16
 }
 
 impl<P: Prescriber> Step<P> {
+    #[tactic(auto, using(crate::proofs::Ratios::in_sixteenths))]
     pub fn new(below: P, sheet: &Sheet) -> Step<P>
         ensures below { result.below ≡ below }
         ensures steps { result.steps ≡ sheet.now.limits.steps }

@@ -9,7 +9,7 @@ use reading::{Reading, Region};
 use sheet::Sheet;
 
 // It keeps the sheet, whose rows are known to be in range.
-#[derive(Clone, Copy)]
+#[derive(Clone, Copy, Debug, PartialEq, Eq)]
 pub struct Zone {
     sheet: Sheet,
 }

@@ -13,7 +13,7 @@ pub struct Verdict {
 }
 
 impl Verdict {
-    // 0 where the image was accepted.
+    // 0 where the image was accepted: the format's own number. Whoever wants the refusal itself has the field.
     pub fn number(&self) -> u8
         ensures { result ≡ number_in self.now.refusal }
     {

@@ -3,17 +3,10 @@
 
 #[cfg(test)]
 mod tests {
+    use sample::sample_image;
     use sheet::{IMAGE, Sheet, Verdict};
     use std::process::Abort;
     use std::test::Fail;
-
-    // The contents; the levels; the degrees; the rows; the steps, the delays and the sum.
-    const SAMPLE: &[u8; IMAGE] =
-        b"\x01\x05\x01\x16\x16\x00\x02\x0c\x2c\x00\x03\x2a\x38\x00\x04\x0c\x62\x00\x05\x04\x6e\x00\
-        \xf0\x0a\xb8\x0b\xc4\x09\x64\x00\x94\x11\xd0\x07\xa0\x0f\x36\x10\x64\x00\x3c\x00\x1f\x08\
-        \xfb\x00\x05\x0f\x23\x2d\x32\x37\x41\x55\x4b\x03\
-        \x64\x00\xa0\x0f\x36\x10\xc8\x00\xd2\x0f\x68\x10\xf4\x01\x04\x10\x9a\x10\xe8\x03\x68\x10\xcc\x10\x20\x03\x36\x10\x9a\x10\x90\x01\xd2\x0f\x36\x10\xc8\x00\xa0\x0f\x04\x10\
-        \xd8\x0e\x6e\x0f\xd2\x0f\x18\x10\x0e\x0c\x0a\x08\xb5\x42\xff\x1f\xfc\x1a";
 
     // A word put into the sample at the place of its low byte, and another one (116 puts none); then the number and place of the
     // verdict that is due once the sum is right.
@@ -170,7 +163,7 @@ mod tests {
 
     fn try_case(rt: &impl Abort, line: &str) -> Result<(), Fail> {
         let [at, word, next, other, number, place] = numbers(rt, line)?;
-        let mut image = *SAMPLE;
+        let mut image = sample_image();
         put(&mut image, usize::from(at), word);
         put(&mut image, usize::from(next), other);
         let total = sum(&image);
@@ -193,7 +186,7 @@ mod tests {
     fn lengths_and_sums(rt: HostRuntime) {
         expect(&rt, &[], 1, 0);
         expect(&rt, &[1; 117], 1, 0);
-        let mut image = *SAMPLE;
+        let mut image = sample_image();
         expect(&rt, &image[0..115], 1, 0);
         assert_eq!(rt; sum(&image), 6908);
         put(&mut image, 114, 6907);
@@ -206,7 +199,7 @@ mod tests {
 
     #[test]
     fn the_sample_is_written_back(rt: HostRuntime) {
-        let sheet = Sheet::decode(SAMPLE).expect(&rt, "the sample is a sheet");
-        assert_eq!(rt; sheet.encode(), *SAMPLE);
+        let sheet = Sheet::decode(&sample_image()).expect(&rt, "the sample is a sheet");
+        assert_eq!(rt; sheet.encode(), sample_image());
     }
 }

@@ -10,7 +10,7 @@ use sheet::{IMAGE, Sheet, Verdict};
 use std::io;
 use std::io::{BufWriter, Read, Write};
 
-#[derive(Drop)]
+#[derive(Debug, Drop)]
 struct Tally {
     records: u64,
     sum: u64,

@@ -7,7 +7,6 @@ use Rattle.std.proofs.lemmas.Bool.{false≢true, cases_lt, lt-ltb, ltb-true}
 use Rattle.delays.specs.declared.Timer.TheVariants.{Transition}
 use Rattle.delays.proofs.Rising.{no_shorter}
 use Rattle.sheet.specs.declared.limits.Limits.{Limits}
-use Rattle.sheet.proofs.Facts.{lengths}
 use Rattle.reading.specs.declared.reading.Reading.{Reading}
 use Rattle.reading.specs.declared.prepared.Prepared.{Prepared}
 use Rattle.reading.specs.Ranges.{InReadingRange}
@@ -22,17 +21,15 @@ use Rattle.faults.specs.Faults.{bit_of, all, blocks_charge, blocks_discharge}
 use Rattle.faults.specs.Observed.{fault_delay}
 use Rattle.faults.specs.Order.{SameReading}
 use Rattle.faults.proofs.Order.{tighter, fault_no_longer}
-use Rattle.prescribers.specs.declared.prescriber.Prescriber.{Ghosts}
 use Rattle.prescribers.specs.Order.{Under}
 use Rattle.calls.specs.declared.call.Call.{Call}
 use Rattle.calls.specs.declared.call.Call.TheVariants.{Read, Word, Limit, Switch, Clear}
 use Rattle.calls.specs.declared.rejection.Rejection.{Rejection}
 use Rattle.calls.specs.Laws.{Ranged, RangedResult}
 use Rattle.answers.specs.declared.answer.Answer.{Answer}
-use Rattle.pack.specs.declared.minder.Pack.{Pack}
+use Rattle.pack.specs.declared.state.State.{State}
 use Rattle.pack.specs.Steps.{Meaning, transition, answered}
 use Rattle.pack.specs.History.{held_offs, host_limit, readings, noted, calls_of, greatest, level_in, prepared_after, last_of, seen_by}
-use Rattle.pack.specs.Called.{Called}
 use Rattle.pack.specs.Exact.{bit_at, Standing, Switched, AfterReading, Shows}
 use Rattle.pack.proofs.Answering.{exact_in}
 use Rattle.pack.proofs.Permitting.{accepted_ranged}
@@ -163,10 +160,8 @@ never_more a b ra rb g f k u earlier bytes =
     let y = exact_in b rb k earlier bytes in
     shows-ordered a b g f k u cs known (answer_after a f earlier bytes) (answer_after b k earlier bytes) (x.refusal ∙ sym y.refusal) (last_of a cs) (last_of b cs) (both_last a b g cs known) x.shows y.shows
 
-pub never_more_call : {P Q : Type 0} {y : Ghosts P} {z : Ghosts Q} (a : Pack P y) (b : Pack Q z) (bytes : List ℕ) (c : Pack P y) (d : Pack Q z) (t l : Answer) → Called a bytes c t → Called b bytes d l → TighterCall a b t l
-never_more_call {y = y} {z = z} a b bytes c d t l e f g u earlier p q =
-    let s = a.timed.sheet in
-    let r = b.timed.sheet in
-    let told : answer_after s.limits (y.gives a.prescriber) earlier bytes ≡ t = ap (λ w. answered s.limits (y.gives a.prescriber) w bytes) (sym p) ∙ sym e.answer in
-    let also : answer_after r.limits (z.gives b.prescriber) earlier bytes ≡ l = ap (λ w. answered r.limits (z.gives b.prescriber) w bytes) (sym q) ∙ sym f.answer in
-    subst (λ w. NeverMore w l) told (subst (NeverMore (answer_after s.limits (y.gives a.prescriber) earlier bytes)) also (never_more s.limits r.limits (lengths s.limits s.sized).rows (lengths r.limits r.sized).rows g (y.gives a.prescriber) (z.gives b.prescriber) u earlier bytes))
+pub never_more_call : (a b : Limits) → length a.rows ≡ 7 → length b.rows ≡ 7 → (f k : Meaning) (x y : State) (bytes : List ℕ) (t l : Answer) → t ≡ answered a f x bytes → l ≡ answered b k y bytes → TighterCall a f x b k y t l
+never_more_call a b ra rb f k x y bytes t l e d g u earlier p q =
+    let told : answer_after a f earlier bytes ≡ t = ap (λ z. answered a f z bytes) (sym p) ∙ sym e in
+    let also : answer_after b k earlier bytes ≡ l = ap (λ z. answered b k z bytes) (sym q) ∙ sym d in
+    subst (λ z. NeverMore z l) told (subst (NeverMore (answer_after a f earlier bytes)) also (never_more a b ra rb g f k u earlier bytes))

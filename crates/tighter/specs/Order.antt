@@ -3,10 +3,9 @@ use Rattle.std.specs.Prelude.{◌≡◌, ℕ, ◌≤◌, true, List, [], ◌∷�
 use Rattle.std.specs.Borrow.{Bor}
 use Rattle.sheet.specs.declared.limits.Limits.{Limits}
 use Rattle.order.specs.Generous.{Generous}
-use Rattle.prescribers.specs.declared.prescriber.Prescriber.{Ghosts}
 use Rattle.prescribers.specs.Order.{Under}
 use Rattle.answers.specs.declared.answer.Answer.{Answer}
-use Rattle.pack.specs.declared.minder.Pack.{Pack}
+use Rattle.pack.specs.declared.state.State.{State}
 use Rattle.pack.specs.Steps.{Meaning, answered}
 use Rattle.pack.specs.Exact.{bit_at, left}
 
@@ -35,10 +34,8 @@ abbrev pub TighterNeverMore : Limits → Meaning → Limits → Meaning → List
 TighterNeverMore a f b g records = Generous b a → Under f g → TighterRun a f b g records
 
 -- the same of one more record, to two packs that were new before the same records
-abbrev pub TighterCall : {P Q : Type 0} {y : Ghosts P} {z : Ghosts Q} → Pack P y → Pack Q z → Answer → Answer → Type 0
-TighterCall {y = y} {z = z} a b tight loose =
-    Generous b.timed.sheet.limits a.timed.sheet.limits → Under (y.gives a.prescriber) (z.gives b.prescriber)
-    → (earlier : List (List ℕ)) → a.state ≡ left a.timed.sheet.limits earlier → b.state ≡ left b.timed.sheet.limits earlier → NeverMore tight loose
+abbrev pub TighterCall : Limits → Meaning → State → Limits → Meaning → State → Answer → Answer → Type 0
+TighterCall a f x b g y tight loose = Generous b a → Under f g → (earlier : List (List ℕ)) → x ≡ left a earlier → y ≡ left b earlier → NeverMore tight loose
 
 -- the answers of both to the newest of the records
 abbrev pub last_answers : Limits → Meaning → Limits → Meaning → List (List ℕ) → Option (Answer × Answer)

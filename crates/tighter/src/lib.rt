@@ -20,7 +20,7 @@ pub fn call_both<P: Prescriber, Q: Prescriber>(
 ) -> (Answer, Answer)
     ensures tight { Called tight.old bytes.now tight.new result.0 }
     ensures loose { Called loose.old bytes.now loose.new result.1 }
-    ensures ordered { TighterCall tight.old loose.old result.0 result.1 }
+    ensures ordered { TighterCall tight.old.timed.sheet.limits (P.Prescriber.gives tight.old.prescriber) tight.old.state loose.old.timed.sheet.limits (Q.Prescriber.gives loose.old.prescriber) loose.old.state result.0 result.1 }
 {
     let a = tight.call(bytes);
     let b = loose.call(bytes);

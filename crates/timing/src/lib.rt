@@ -13,7 +13,7 @@ ghost use Rattle.timing.specs.Timing.{idle, all_idle, stepped, all_stepped, all_
 pub const FAULTS: usize = 13;
 
 // A reading, as the rule of one fault sees it. Between the level that trips and the one that releases lies the hysteresis, where
-// a reading does neither.
+// a reading does neither. No enum of three: what `advance` promises holds for a reading that does both, too, which no enum could say.
 #[derive(Clone, Copy, Debug, PartialEq, Eq)]
 pub struct Observation {
     pub elapsed: u16,
@@ -21,7 +21,8 @@ pub struct Observation {
     pub releases: bool,
 }
 
-// How long a fault has been tripped without a break, in milliseconds and never past u32::MAX, and whether it stands.
+// How long a fault has been tripped without a break, in milliseconds and never past u32::MAX, and whether it stands. No Option: a fault
+// may stand that is tripped no more, and be tripped without standing.
 #[derive(Clone, Copy, Debug, PartialEq, Eq)]
 pub struct Watch {
     pub held: u32,
@@ -75,7 +76,8 @@ impl Watches {
         *self = Watches::new();
     }
 
-    // Moves each fault's watch by what its rule sees of a reading, under its own delay.
+    // Moves each fault's watch by what its rule sees of a reading, under its own delay. Three arrays and no struct for each fault: the
+    // delays are those of a sheet, the watches those of a pack, and the observations of one reading.
     pub fn advance(&mut self, seen: &[Observation; FAULTS], delays: &[u32; FAULTS])
         ensures value { self.new.table ≡ all_stepped delays.now seen.now self.old.table }
         ensures exact { ExactAfter delays.now seen.now self.old.table self.new.table }

@@ -15,7 +15,8 @@ use layout::{IMAGE, Refusal};
 use writing::write_image;
 
 impl Sheet {
-    // The sheet that an image holds, or the first refusal that the image is owed.
+    // The sheet that an image holds, or the first refusal that the image is owed. A method and no TryFrom: each of the four promises is a
+    // clause with a name here, and a trait would have them all in one ghost member. The same goes for `encode`.
     pub fn decode(image: &[u8]) -> Result<Sheet, Refusal>
         ensures value { limits_in result ≡ decoded image.now }
         ensures judged { Judged image.now (limits_in result) }
