@@ -38,25 +38,21 @@ impl<P: Prescriber> Prescriber for Precharge<P> {
 
     ghost ranged = { Prim.search rules };
 
-    // The same line as in Step: a trait cannot write a function of the trait that it stands on.
     fn prescribe(&self, r: &Reading) -> Prescription {
-        self.lower(r, self.below.prescribe(r))
+        let mut p = self.below.prescribe(r);
+        if u32::from(r.voltage) < self.until {
+            p.current = p.current.min(self.most);
+        }
+        p
     }
 }
 
 impl<P: Prescriber> Limiter for Precharge<P> {
     type Below = P;
 
-    ghost under = { λ s. s.below };
-
     ghost lowered = { λ s. precharged s.until s.most };
 
-    fn lower(&self, r: &Reading, mut p: Prescription) -> Prescription {
-        if u32::from(r.voltage) < self.until {
-            p.current = p.current.min(self.most);
-        }
-        p
-    }
+    ghost under = { λ s. s.below };
 
     ghost made = { λ s r. refl };
 

@@ -22,13 +22,10 @@ pub trait Prescriber {
 pub trait Limiter: Prescriber {
     type Below: Prescriber;
 
-    ghost under: { Self → Self.Below };
-
     // What becomes of a pair that the one below gives at a reading.
     ghost lowered: { Self → Reading → Prescription → Prescription };
 
-    fn lower(&self, r: &Reading, p: Prescription) -> Prescription
-        ensures { result ≡ lowered self.now r.now p };
+    ghost under: { Self → Self.Below };
 
     // It has no other meaning than what it makes of the pair from below,
     ghost made: { (s : Self) (r : Reading) → Self.Prescriber.gives s r ≡ lowered s r (Self.Below.Prescriber.gives (under s) r) };

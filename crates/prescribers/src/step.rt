@@ -17,7 +17,8 @@ pub struct Step<P: Prescriber> {
     ghost ratios: { InSixteenths steps },
 }
 
-// How many of the step voltages the voltage has reached, added up as reading counts the edges.
+// How many of the step voltages the voltage has reached, added up as reading counts the edges: one function of both would be this chain
+// under a name, with the contract of its closure besides.
 fn count_reached(voltages: &[u16; 4], voltage: u16) -> usize
     ensures value { result ≡ steps_reached voltages.now voltage }
     ensures bound { result ≤ 4 }
@@ -62,21 +63,18 @@ impl<P: Prescriber> Prescriber for Step<P> {
         (le_trans (share_le p.current (step_share s.steps r.voltage) (share_small s.steps s.ratios r.voltage)) h.0, h.1) };
 
     fn prescribe(&self, r: &Reading) -> Prescription {
-        self.lower(r, self.below.prescribe(r))
+        let mut p = self.below.prescribe(r);
+        p.current = share::<16>(p.current, sixteenths(&self.steps, r.voltage));
+        p
     }
 }
 
 impl<P: Prescriber> Limiter for Step<P> {
     type Below = P;
 
-    ghost under = { λ s. s.below };
-
     ghost lowered = { λ s. stepped s.steps };
 
-    fn lower(&self, r: &Reading, mut p: Prescription) -> Prescription {
-        p.current = share::<16>(p.current, sixteenths(&self.steps, r.voltage));
-        p
-    }
+    ghost under = { λ s. s.below };
 
     ghost made = { λ s r. refl };
 
