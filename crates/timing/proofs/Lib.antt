@@ -1,4 +1,3 @@
-pub mod Arrays
 pub mod Counted
 pub mod Exact
 pub mod Implies

@@ -83,7 +83,8 @@ impl Watches {
         ensures exact { ExactAfter delays.now seen.now self.old.table self.new.table }
         ensures ordered { OrderedAfter delays.now seen.now self.old.table self.new.table }
     {
-        // Written out, with the index by hand: from_fn over the thirteen takes a record from 499 instructions to 754.
+        // Written out: by from_fn a record takes 754 instructions in place of 499, past the 600 of the C program that is the bar, and after
+        // iter_mut a proof knows the length alone.
         self.advance_one(0, seen[0], delays[0]);
         self.advance_one(1, seen[1], delays[1]);
         self.advance_one(2, seen[2], delays[2]);
@@ -100,7 +101,7 @@ impl Watches {
     }
 
     fn advance_one(&mut self, i: usize, seen: Observation, delay: u32)
-        requires { i < 13 }
+        requires { i < FAULTS }
         ensures { self.new.table ≡ slice_set self.old.table i (stepped delay seen (slice_index_or self.old.table i idle)) }
     {
         self.table[i].advance(seen, delay);
@@ -110,8 +111,7 @@ impl Watches {
     pub fn standing(&self) -> [bool; FAULTS]
         ensures { result ≡ all_standing self.now.table }
     {
-        // Not `map`, which costs a record 27 instructions more.
-        std::array::from_fn(|k| self.table[k].standing)
+        self.table.map(|watch| watch.standing)
     }
 }
 
