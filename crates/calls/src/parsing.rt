@@ -29,22 +29,21 @@ pub fn parse(bytes: &[u8]) -> Result<Call, Rejection>
     ensures exact { ParsedExactly bytes.now result }
     ensures ranged { RangedResult result }
 {
-    match <&[u8; RECORD]>::try_from(bytes) {
-        Ok(record) => parse_record(record),
-        Err(_) => Err(Rejection::Length),
-    }
+    let Ok(record) = <&[u8; RECORD]>::try_from(bytes) else {
+        return Err(Rejection::Length);
+    };
+    parse_record(record)
 }
 
 #[cfg(test)]
 mod tests {
     use super::*;
+    use crate::call::Offs;
+    use reading::Reading;
 
     // The number of the refusal of a record, or 0, as an answer's line has it.
     fn refusal(bytes: &[u8]) -> u8 {
-        match parse(bytes) {
-            Ok(_) => 0,
-            Err(rejection) => u8::from(rejection),
-        }
+        parse(bytes).err().map_or(0, u8::from)
     }
 
     fn with_words(letter: u8, flags: u8, first: u16, second: u16) -> [u8; RECORD] {
@@ -77,26 +76,23 @@ mod tests {
     // A reading, an unknown letter, and both switch-offs.
     #[test]
     fn three_records(rt: HostRuntime) {
-        match parse(&[
+        let record = [
             0x52, 0x01, 0x5F, 0x01, 0x10, 0x0E, 0xF4, 0x01, 0x00, 0x19, 0x00, 0x1E,
-        ]) {
-            Ok(Call::Read(reading)) => {
-                assert_eq!(rt; reading.charger, true);
-                assert_eq!(rt; reading.elapsed, 351);
-                assert_eq!(rt; reading.voltage, 3_600);
-                assert_eq!(rt; reading.current, 500);
-                assert_eq!(rt; reading.cell, 6_400);
-                assert_eq!(rt; reading.die, 7_680);
-            }
-            _ => assert!(rt; false),
-        }
+        ];
+        let reading = Reading {
+            charger: true,
+            elapsed: 351,
+            voltage: 3_600,
+            current: 500,
+            cell: 6_400,
+            die: 7_680,
+        };
+        let offs = Offs {
+            charge: true,
+            discharge: true,
+        };
+        assert_eq!(rt; parse(&record), Ok(Call::Read(reading)));
         assert_eq!(rt; refusal(&with_words(b'X', 0, 0, 0)), 7);
-        match parse(&with_words(b'S', 3, 0, 0)) {
-            Ok(Call::Switch(offs)) => {
-                assert_eq!(rt; offs.charge, true);
-                assert_eq!(rt; offs.discharge, true);
-            }
-            _ => assert!(rt; false),
-        }
+        assert_eq!(rt; parse(&with_words(b'S', 3, 0, 0)), Ok(Call::Switch(offs)));
     }
 }

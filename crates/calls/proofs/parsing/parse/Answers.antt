@@ -16,15 +16,15 @@ other : (m : List ℕ) → (length m ≡ 12 → ⊥) → Err Length ≡ parsed m
 unfolding parsed
 other m h = rw (ne_eqb (length m) 12 h)
 
-pub returns-in-Ok : goal.returns-in-Ok
-returns-in-Ok c =
+pub returns-in_default : goal.returns-in_default
+returns-in_default c =
+    let m = c.args.bytes.now in
+    let e = other m c.in_default.ensures.1 in
+    record { value = e; exact = subst (ParsedExactly m) (sym e) (exact m); ranged = tt }
+
+pub returns : goal.returns
+returns c =
     let m = c.args.bytes.now in
     let whole = c.in-Ok.ensures.1 in
     let e : c.parse_record.result ≡ parsed m = c.parse_record.ensures ∙ ap (λ bytes. by_letter (slice_index bytes 0) bytes) whole.same ∙ long m whole.long in
     record { value = e; exact = subst (ParsedExactly m) (sym e) (exact m); ranged = subst RangedResult (sym e) (ranged m) }
-
-pub returns-in-Err : goal.returns-in-Err
-returns-in-Err c =
-    let m = c.args.bytes.now in
-    let e = other m c.in-Err.ensures.1 in
-    record { value = e; exact = subst (ParsedExactly m) (sym e) (exact m); ranged = tt }
