@@ -43,9 +43,9 @@ levels_of l = map (λ r. r.level) l.rows
 abbrev pub transition : Limits → ℕ
 transition l = delay_of Transition l.timing.delaycfg
 
--- every delay that a pack goes by, and the levels
+-- every delay that a pack goes by
 abbrev pub waits_of : Limits → Waits
-waits_of l = record { faults = fault_delays l; transition = transition l; levels = levels_of l }
+waits_of l = record { faults = fault_delays l; transition = transition l }
 
 -- the row that serves a reading
 abbrev pub row_for : Limits → Reading → ℕ

@@ -70,12 +70,16 @@ impl State {
     fn apply_reading(&mut self, timed: &TimedSheet, reading: Reading)
         ensures { self.new ≡ reads timed.now.sheet.limits self.old reading }
     {
-        let TimedSheet { sheet, waits } = timed;
+        let TimedSheet {
+            sheet,
+            waits,
+            levels,
+        } = timed;
         let region = Region::of(&sheet.limits.degrees, reading.cell);
         self.ages.pass(region.row(), reading.elapsed);
         let level = self
             .ages
-            .level(region.level(sheet), &waits.levels, waits.transition);
+            .level(region.level(sheet), levels, waits.transition);
         let prepared = Prepared {
             reading,
             region,
@@ -124,6 +128,6 @@ impl State {
     pub(crate) fn is_on(&self, switch: Switch) -> bool
         ensures { result ≡ is_on switch self.now }
     {
-        !faults::is_blocked(switch, &self.watches.standing()) & !self.is_held(switch)
+        !faults::is_blocked(switch, &self.watches.standing()) && !self.is_held(switch)
     }
 }
