@@ -25,6 +25,7 @@ fn run<R: Read, W: Write>(input: &mut R, out: &mut W) -> io::Result<()> {
     })
 }
 
+// The same three lines in each program: a function of them would take the program as a closure and the streams as parameters.
 fn main(rt: HostRuntime) -> io::Result<()> {
     let mut out = BufWriter::new(rt.alloc(), rt.stdout())?;
     run(&mut rt.stdin(), &mut out)?;

@@ -72,7 +72,8 @@ impl Region {
         matches!(self, Region::TooCold | Region::TooHot)
     }
 
-    // The row by which the region may be charged, which the ends do not have.
+    // The row by which the region may be charged, which the ends do not have. Here and below the sheet is handed in: a struct of it and the
+    // region would be made for one call.
     fn charging_row(&self, sheet: &Sheet) -> Option<Row>
         ensures { result
             ≡ (if is_end (reached_of self.now)
