@@ -19,16 +19,20 @@ impl Fault {
         ensures { result ≡ blocks switch self }
     {
         match switch {
-            Switch::Charge => match self {
-                Fault::Undervoltage | Fault::OvercurrentDischarge | Fault::TooHotDischarge => false,
-                _ => true,
-            },
-            Switch::Discharge => match self {
-                Fault::Undervoltage | Fault::OvercurrentDischarge | Fault::TooHotDischarge => true,
-                Fault::Shutdown | Fault::DieHot => true,
-                Fault::PermanentHot | Fault::PermanentOvervoltage => true,
-                _ => false,
-            },
+            Switch::Charge => !matches!(
+                self,
+                Fault::Undervoltage | Fault::OvercurrentDischarge | Fault::TooHotDischarge
+            ),
+            Switch::Discharge => matches!(
+                self,
+                Fault::Undervoltage
+                    | Fault::Shutdown
+                    | Fault::OvercurrentDischarge
+                    | Fault::TooHotDischarge
+                    | Fault::DieHot
+                    | Fault::PermanentHot
+                    | Fault::PermanentOvervoltage
+            ),
         }
     }
 }
@@ -40,5 +44,5 @@ pub fn is_blocked(switch: Switch, standing: &[bool; FAULTS]) -> bool
     ensures ordered { BlocksWithFewer (blocks switch) standing.now result }
 {
     ALL.iter()
-        .any(|fault| fault.blocks(switch) & standing[fault.bit()])
+        .any(|fault| fault.blocks(switch) && standing[fault.bit()])
 }

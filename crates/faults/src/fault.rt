@@ -43,7 +43,7 @@ pub(crate) const ALL: [Fault; FAULTS] = [
 impl Fault {
     pub(crate) fn bit(self) -> usize
         ensures value { result ≡ bit_of self }
-        ensures bound { result < 13 }
+        ensures bound { result < FAULTS }
     {
         self as usize
     }

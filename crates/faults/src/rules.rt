@@ -21,6 +21,7 @@ fn is_cool_again(t: i16, degree: i8, hysteresis: u8) -> bool
     i32::from(t) < i32::from(degree) * 256 - i32::from(hysteresis) * 256
 }
 
+// The limits and the reading are two parameters of each rule: a struct of both would be made in `observe` and taken apart in each.
 impl Fault {
     pub(crate) fn is_enabled(self, limits: &Limits) -> bool
         ensures { result ≡ is_enabled self limits.now }
@@ -39,7 +40,7 @@ impl Fault {
         let current = i32::from(seen.current);
         match self {
             Fault::Undervoltage => seen.voltage < levels.trip,
-            Fault::Shutdown => (seen.voltage < levels.shutdown) & !seen.charger,
+            Fault::Shutdown => seen.voltage < levels.shutdown && !seen.charger,
             Fault::Overvoltage => seen.voltage > p.level,
             Fault::OvercurrentCharge => current > i32::from(levels.charging),
             Fault::OvercurrentDischarge => current < -i32::from(levels.discharging),
@@ -48,8 +49,8 @@ impl Fault {
             Fault::TooHotDischarge => reaches(seen.cell, degrees.hot),
             Fault::DieHot => reaches(seen.die, degrees.die),
             Fault::Full => {
-                let tapered = (current >= 0) & (current <= i32::from(levels.fullcurrent));
-                (seen.voltage >= levels.full) & tapered
+                let tapered = current >= 0 && current <= i32::from(levels.fullcurrent);
+                seen.voltage >= levels.full && tapered
             }
             Fault::Watchdog => !p.word,
             Fault::PermanentHot => reaches(seen.cell, degrees.permanent),
@@ -70,8 +71,8 @@ impl Fault {
             Fault::Undervoltage => seen.voltage >= levels.release,
             Fault::Shutdown => seen.charger,
             Fault::Overvoltage => voltage + u32::from(levels.overdrop) <= u32::from(p.level),
-            Fault::OvercurrentCharge => !seen.charger & (seen.current <= 0),
-            Fault::OvercurrentDischarge => seen.charger & (seen.current >= 0),
+            Fault::OvercurrentCharge => !seen.charger && seen.current <= 0,
+            Fault::OvercurrentDischarge => seen.charger && seen.current >= 0,
             Fault::TooColdCharge => is_warm_again(seen.cell, degrees.edges[0], hysteresis),
             Fault::TooHotCharge => is_cool_again(seen.cell, degrees.edges[7], hysteresis),
             Fault::TooHotDischarge => is_cool_again(seen.cell, degrees.hot, hysteresis),
