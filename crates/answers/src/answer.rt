@@ -6,6 +6,8 @@ use calls::Rejection;
 use reading::Region;
 use std::fmt;
 
+// Field by field as the twelve bytes have them, which the charger's pair and the switches are among: a field for what may be charged
+// would be taken apart again for each of them.
 #[derive(Clone, Copy, Debug, PartialEq, Eq)]
 pub struct Answer {
     // why the record was refused, if it was
@@ -52,12 +54,14 @@ impl Answer {
             level,
             ..
         } = *self;
+        let refusal = self.refusal_number();
+        // Word by word: over all four at once by `map` and `flat_map` two goals stay open.
         let [faults_low, faults_high] = faults.to_le_bytes();
         let [current_low, current_high] = current.to_le_bytes();
         let [voltage_low, voltage_high] = voltage.to_le_bytes();
         let [level_low, level_high] = level.to_le_bytes();
         [
-            self.refusal_number(),
+            refusal,
             self.switches(),
             faults_low,
             faults_high,
@@ -108,16 +112,9 @@ mod tests {
             region: Region::Cold1,
             level: 4300,
         };
-        let bytes = answer.bytes();
-        assert_eq!(rt; bytes[0], 7);
-        assert_eq!(rt; bytes[1], 2);
-        assert_eq!(rt; bytes[2], 0x03);
-        assert_eq!(rt; bytes[3], 0x12);
-        assert_eq!(rt; bytes[4], 0xE8);
-        assert_eq!(rt; bytes[5], 0x03);
-        assert_eq!(rt; bytes[8], 0xFE);
-        assert_eq!(rt; bytes[9], 0);
-        assert_eq!(rt; bytes[10], 0xCC);
-        assert_eq!(rt; bytes[11], 0x10);
+        let bytes = [
+            7, 2, 0x03, 0x12, 0xE8, 0x03, 0x68, 0x10, 0xFE, 0, 0xCC, 0x10,
+        ];
+        assert_eq!(rt; answer.bytes(), bytes);
     }
 }
