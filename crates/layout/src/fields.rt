@@ -16,7 +16,7 @@ pub fn word_at(image: &[u8], at: usize) -> u16
 }
 
 fn signed_at(image: &[u8; IMAGE], at: usize) -> i8
-    requires { at < 116 }
+    requires { at < IMAGE }
     ensures { result ≡ signed image.now at }
 {
     image[at].cast_signed()
@@ -54,7 +54,7 @@ fn read_degrees(image: &[u8; IMAGE]) -> Degrees
 }
 
 fn read_row(image: &[u8; IMAGE], at: usize) -> Row
-    requires { at + 5 < 116 }
+    requires { at + 5 < IMAGE }
     ensures { result ≡ row_of image.now at }
 {
     Row {

@@ -2,22 +2,27 @@
 ghost use Rattle.std.specs.Prelude.{◌≡◌};
 ghost use Rattle.layout.specs.Refusals.{number_of, place_of};
 
-use std::error::Error;
-use std::fmt;
+use thiserror::Error;
 
-#[derive(Clone, Copy, Debug, PartialEq, Eq)]
+#[derive(Clone, Copy, Debug, PartialEq, Eq, Error)]
 pub enum Refusal {
     // the image has another length than 116
+    #[error("an image has 116 bytes")]
     Length,
     // the edition is not 1, or the count of entries is not 5
+    #[error("wrong edition or count of entries")]
     Header,
     // this entry of the table of contents, 1 to 5, is wrong
+    #[error("entry {0} of the contents is wrong")]
     Entry(u8),
     // the last two bytes are not the sum of the others
+    #[error("wrong sum")]
     Sum,
     // the field at this place is out of its range
+    #[error("the field at {0} is out of its range")]
     Range(u8),
     // the field at this place is at odds with another one
+    #[error("the field at {0} is at odds with another one")]
     Conflict(u8),
 }
 
@@ -48,20 +53,3 @@ impl From<Refusal> for u8 {
         }
     }
 }
-
-impl fmt::Display for Refusal {
-    fn fmt<W: fmt::Write>(&self, f: &mut fmt::Formatter<W>) -> fmt::Result {
-        match self {
-            Refusal::Length => f.write_str("an image has 116 bytes"),
-            Refusal::Header => f.write_str("wrong edition or count of entries"),
-            Refusal::Entry(entry) => write!(f, "entry {entry} of the contents is wrong"),
-            Refusal::Sum => f.write_str("wrong sum"),
-            Refusal::Range(place) => write!(f, "the field at {place} is out of its range"),
-            Refusal::Conflict(place) => {
-                write!(f, "the field at {place} is at odds with another one")
-            }
-        }
-    }
-}
-
-impl Error for Refusal {}

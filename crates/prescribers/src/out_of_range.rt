@@ -2,10 +2,10 @@
 ghost use Rattle.std.specs.Prelude.{◌≡◌};
 ghost use Rattle.prescribers.specs.Flats.{number_of};
 
-use std::error::Error;
-use std::fmt;
+use thiserror::Error;
 
-#[derive(Clone, Copy, Debug, PartialEq, Eq)]
+#[derive(Clone, Copy, Debug, PartialEq, Eq, Error)]
+#[error("the current or the voltage is out of range")]
 pub struct OutOfRange;
 
 // Its number among the refusals.
@@ -16,11 +16,3 @@ impl From<OutOfRange> for u8 {
         9
     }
 }
-
-impl fmt::Display for OutOfRange {
-    fn fmt<W: fmt::Write>(&self, f: &mut fmt::Formatter<W>) -> fmt::Result {
-        f.write_str("the current or the voltage is out of range")
-    }
-}
-
-impl Error for OutOfRange {}
