@@ -43,6 +43,7 @@ fn row_conflicts(overdrop: u16, placed: Placed) -> [Rule; 2]
     ]
 }
 
+// The voltages may not fall and the ratios may not rise: one closure over the six places would have to ask at each which it is.
 fn step_conflicts(s: &Steps) -> [Rule; 6]
     ensures { result ≡ step_conflicts s.now }
 {

@@ -93,6 +93,7 @@ fn row_ranges(placed: Placed) -> [Rule; 3]
     ]
 }
 
+// Two tables in one array: a closure over the eight places would have to ask at each which table it is in.
 fn step_ranges(s: &Steps) -> [Rule; 8]
     ensures { result ≡ step_ranges s.now }
 {

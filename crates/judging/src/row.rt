@@ -22,6 +22,7 @@ pub(crate) fn first_broken_row<F: Fn(Placed) -> Option<u8>>(
     requires { F.IsAlwaysCallable broken }
     ensures { (rules : ℕ → Row → List Rule) → ((p : _) (found : _) → F.post broken p found → found ≡ first_broken (rules p.place p.row)) → result ≡ first_broken (each_row rules 56 rows.now) }
 {
+    // A loop: with `enumerate().find_map(..)` neither that each place is low nor the first row's answer got a proof.
     for (i, row) in rows.iter().enumerate() {
         let found = broken(Placed {
             place: 56 + 6 * i as u8,
