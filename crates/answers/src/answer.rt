@@ -6,8 +6,7 @@ use calls::Rejection;
 use reading::Region;
 use std::fmt;
 
-// Field by field as the twelve bytes have them, which the charger's pair and the switches are among: a field for what may be charged
-// would be taken apart again for each of them.
+// Field by field as the twelve bytes have them: a pair for the charger would be taken apart again, for the bytes and for the line.
 #[derive(Clone, Copy, Debug, PartialEq, Eq)]
 pub struct Answer {
     // why the record was refused, if it was
