@@ -54,7 +54,7 @@ impl Answer {
             ..
         } = *self;
         let refusal = self.refusal_number();
-        // Word by word: over all four at once by `map` and `flat_map` two goals stay open.
+        // Word by word: over all four at once by `map` two goals stay open.
         let [faults_low, faults_high] = faults.to_le_bytes();
         let [current_low, current_high] = current.to_le_bytes();
         let [voltage_low, voltage_high] = voltage.to_le_bytes();
