@@ -1,5 +1,5 @@
 -- The limits of the sample sheet. Voltages are in mV, currents in mA, degrees in °C.
-use Rattle.std.specs.Prelude.{ℕ, List, [], ◌∷◌, pos, neg_ℤ}
+use Rattle.std.specs.Prelude.{ℕ, [], ◌∷◌, pos, neg_ℤ}
 use Rattle.sheet.specs.declared.limits.Row.{Row}
 use Rattle.sheet.specs.declared.limits.Limits.{Limits}
 
