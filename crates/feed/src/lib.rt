@@ -8,7 +8,7 @@ use std::io;
 use std::io::Read;
 
 // Room for 341 records.
-const ROOM: usize = 4092;
+const ROOM: usize = 341 * RECORD;
 
 // Fills the buffer from its start, as far as the input goes, and answers the bytes that came. A pipe may bring them one by one, so
 // fewer than the buffer takes came only where the input has ended.
@@ -24,7 +24,7 @@ pub fn fill<'a, R: Read>(input: &mut R, buffer: &'a mut [u8]) -> io::Result<&'a 
         }
         have += n;
     }
-    Ok(&buffer[0..have])
+    Ok(&buffer[..have])
 }
 
 // Hands over the records of the input, one after the other, until it ends. A last one that was cut short is handed over too.
@@ -32,7 +32,7 @@ pub fn each_record<R: Read, F: FnMut(&[u8]) -> io::Result<()>>(
     input: &mut R,
     mut each: F,
 ) -> io::Result<()>
-    requires { (state : F) (piece : _) → 0 < length piece.now → length piece.now ≤ 12 → F.pre state piece }
+    requires { (state : F) (piece : _) → 0 < length piece.now → length piece.now ≤ RECORD → F.pre state piece }
 {
     let mut buffer = [0u8; ROOM];
     // no input reaches this bound: every function has to end

@@ -38,6 +38,7 @@ pub(crate) fn precharge_in_order(b: &Sheet, a: &Sheet) -> bool
 pub(crate) fn steps_in_order(b: &Steps, a: &Steps) -> bool
     ensures { IsTrue result ↔ AreStepsInOrder b.now a.now }
 {
+    // By index: the definition goes by k, and a zip of both tables of both sheets would be four iterators.
     (0..4).all(|k| a.voltages[k] <= b.voltages[k] && a.ratios[k] <= b.ratios[k])
 }
 

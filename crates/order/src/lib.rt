@@ -20,7 +20,7 @@ mod tests {
         let mut image = sample_image();
         assert!(rt; at < 114);
         image[at] = image[at].wrapping_sub(by);
-        image[114] = 252 - by.min(252);
+        image[114] = 252u8.saturating_sub(by);
         let sample = Sheet::decode(&sample_image())?;
         let tight = Sheet::decode(&image)?;
         assert!(rt; at_least_as_generous(&sample, &sample));

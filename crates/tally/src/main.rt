@@ -21,15 +21,15 @@ impl Tally {
         self.records = self.records.wrapping_add(1);
         let switches = u64::from(answer.charge) + 2 * u64::from(answer.discharge);
         let region = i8::from(answer.region).cast_unsigned().wrapping_add(4);
-        self.sum = self
-            .sum
-            .wrapping_add(u64::from(answer.refusal.map_or(0, u8::from)))
-            .wrapping_add(switches)
-            .wrapping_add(u64::from(answer.faults))
-            .wrapping_add(u64::from(answer.current))
-            .wrapping_add(u64::from(answer.voltage))
-            .wrapping_add(u64::from(answer.level))
-            .wrapping_add(u64::from(region));
+        // Each of the seven has 16 bits at most, so their sum fits.
+        let numbers = u64::from(answer.refusal.map_or(0, u8::from))
+            + switches
+            + u64::from(answer.faults)
+            + u64::from(answer.current)
+            + u64::from(answer.voltage)
+            + u64::from(answer.level)
+            + u64::from(region);
+        self.sum = self.sum.wrapping_add(numbers);
     }
 }
 
