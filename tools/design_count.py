@@ -112,8 +112,8 @@ def pairs(files):
     groups = collections.defaultdict(list)
     for name, lines in files:
         for fn, _, body in functions(lines):
-            head = " ".join(body).split(")")[0]
-            names = sorted(set(re.findall(r"[(,]\s*(?:mut )?(&self|&mut self|\w+)(?=:|,|$)", head.split("(", 1)[-1].join(["(", ""]))) - {"rt", "self"})
+            head = re.sub(r".*?fn \w+(<.*?>)?\(", "(", " ".join(body), count=1).split(")")[0]
+            names = sorted(set(re.findall(r"[(,]\s*(?:mut )?(&self|&mut self|\w+)(?=:|,|$)", head)) - {"rt", "self"})
             for a in range(len(names)):
                 for b in range(a + 1, len(names)):
                     groups[names[a] + ", " + names[b]].append(f"{name}:{fn}")
@@ -129,11 +129,11 @@ def main():
         ("1 a number named for a kind or a refusal", lines_with(files, rf"\b(refusal|number|place|region|reached|kind)\b(: |\(&?self\) -> ){NUMBER}\b")),
         ("1 a function that answers a number for what it takes", lines_with(files, r"fn \w+\((&?self|&\w+: .*Result<.*|.*\bbytes: &\[u8\])\) -> (u8|i8)\b")),
         ("1 an error type without Error", [e for e in sorted({m for _, ls in files for l in ls for m in re.findall(r"Result<[^<>]*, (\w+)>", l)} - {"Fail"})
-                                           if not any(re.search(rf"impl Error for {e}\b", l) for _, ls in files for l in ls)]),
+                                           if not any(re.search(rf"impl Error for {e}\b|derive\([^)]*\bError\)\][^{{;]*(enum|struct) {e}\b", "\n".join(ls)) for _, ls in files)]),
         ("2 bodies that differ in names and numbers alone", alike(files, lambda b: [shape(b)], 2, lambda k: len(k) < 13)),
         ("2 functions with the same clauses", alike(files, lambda b: ["; ".join(clauses(b))], 2, lambda k: not k)),
         ("3 a loop over numbers, or with a condition", lines_with(files, r"^\s*(for \w+ in .*\.\.|while |loop\b)")),
-        ("3 a loop that counts, adds up or looks for something", lines_with(files, r"^\s*\w+ (\+=|-=) |^\s*(best|word|all) = ")),
+        ("3 a loop that counts, adds up or looks for something", lines_with(files, r"^\s*\w+ (\+=|-=) |^\s*(best|word|all) = |^ {12,}return (true|false|Some\(\w+(\.\w+)?\)|found);")),
         ("3 lines written out number by number", written_out(files)),
         ("4 a conversion by a method", lines_with(files, r"fn (of|number|to_\w+|into_\w+|from_\w+)\(")),
         ("4 a value rebuilt as it is", lines_with(files, r"(\w+::\w+(\(\w+\))?) => Ok\(\1\)")),

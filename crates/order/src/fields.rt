@@ -42,6 +42,7 @@ pub(crate) fn steps_in_order(b: &Steps, a: &Steps) -> bool
     (0..4).all(|k| a.voltages[k] <= b.voltages[k] && a.ratios[k] <= b.ratios[k])
 }
 
+// The bit that faults asks for too: a method of both would be this line, with a contract and an edit of its own.
 fn is_enabled(word: u16, fault: u32) -> bool
     requires { fault < 13 }
     ensures { result ≡ (word / 2 ^ fault % 2 == 1) }
