@@ -26,7 +26,7 @@ pub struct Answer {
 }
 
 impl Answer {
-    // The number of the refusal, or 0.
+    // The number of the refusal, or 0. Verdict has the same of another refusal: a function of both would be `map_or` itself under a name.
     fn refusal_number(&self) -> u8
         ensures { result ≡ number_in self.now.refusal }
     {

@@ -41,7 +41,7 @@ mod tests {
     use crate::call::Offs;
     use reading::Reading;
 
-    // The number of the refusal of a record, or 0, as an answer's line has it.
+    // The number of the refusal of a record, or 0, as an answer's line has it: the tests keep the numbers of the format.
     fn refusal(bytes: &[u8]) -> u8 {
         parse(bytes).err().map_or(0, u8::from)
     }

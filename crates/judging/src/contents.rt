@@ -8,7 +8,8 @@ ghost use Rattle.layout.specs.Decoded.{refuse, contents, summed};
 use super::broken::first_broken;
 use layout::{IMAGE, Refusal, Rule, body_sum, word_at};
 
-// Whether the entry whose four bytes begin at a place is the wanted one: kind of body, length, offset.
+// Whether the entry whose four bytes begin at a place is the wanted one: kind of body, length, offset. The kind is a byte of the format
+// that is only compared: an enum would be turned into the byte at once.
 fn is_entry(rest: &[u8], at: usize, kind: u8, size: u8, offset: u16) -> bool
     requires { at + 3 < length rest.now }
     ensures { result ≡ is_entry (slice_index rest.now at) (slice_index rest.now (at + 1)) (word rest.now (at + 2)) kind size offset }

@@ -29,6 +29,7 @@ pub struct State {
     pub offs: Offs,
 }
 
+// The sheet is handed in where a call needs it: a state that held it would be the pack.
 impl State {
     // No call has come: no host word, no switch-off, and the widest limit.
     pub(crate) fn new() -> State

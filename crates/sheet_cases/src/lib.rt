@@ -145,6 +145,7 @@ mod tests {
         Verdict::from(&Sheet::decode(image))
     }
 
+    // The number and the place as the line of a verdict has them: the tests keep the numbers of the format.
     fn expect(rt: &impl Abort, image: &[u8], number: u8, place: u8) {
         let v = verdict(image);
         assert_eq!(rt; v.number(), number);

@@ -14,6 +14,7 @@ const CONTENTS: [u8; 22] = [
     1, 5, 1, 22, 22, 0, 2, 12, 44, 0, 3, 42, 56, 0, 4, 12, 98, 0, 5, 4, 110, 0,
 ];
 
+// Field by field, in the order of the image: a loop would need the fields as a list, which is what this makes.
 fn level_words(l: &Levels) -> [u16; 11]
     ensures { flat_map pair result ≡ level_bytes l.now }
 {
