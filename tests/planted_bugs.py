@@ -212,7 +212,7 @@ def markdown(bugs, outcomes):
     for mark, twice in (("<!-- once -->\n", False), ("<!-- twice -->\n", True)):
         head, found, rest = page.partition(mark)
         assert found, "docs/planted-bugs.md has no line " + mark
-        chosen = [bug for bug in bugs if (len(bug["edits"]) > 1) == twice]
+        chosen = [bug for bug in bugs if bug["name"].startswith("twice-") == twice]
         rest = re.search(r"^#.*\Z|\Z", rest, re.M | re.S).group(0)
         page = head + mark + "\n" + tables(chosen, outcomes) + ("\n" + rest if rest else "")
     with open(PAGE, "w", encoding="utf-8") as file:
