@@ -1,7 +1,8 @@
-// An answer, its bytes and its line.
+// An answer of a pack.
 ghost use Rattle.std.specs.Prelude.{◌≡◌, Some};
-ghost use Rattle.answers.specs.Answers.{number_in, switches_of, bytes_of, line_of, line_at};
+ghost use Rattle.answers.specs.Answers.{numbers_of, bytes_of, line_of, line_at};
 
+use super::numbers::AnswerNumbers;
 use calls::Rejection;
 use reading::Region;
 use std::fmt;
@@ -25,54 +26,31 @@ pub struct Answer {
     pub level: u16,
 }
 
+impl From<Answer> for AnswerNumbers {
+    ghost from_gives = { λ answer numbers. numbers ≡ numbers_of answer };
+
+    fn from(answer: Answer) -> AnswerNumbers {
+        AnswerNumbers {
+            refusal: answer.refusal.map_or(0, u8::from),
+            charge: answer.charge,
+            discharge: answer.discharge,
+            faults: answer.faults,
+            current: answer.current,
+            voltage: answer.voltage,
+            region: i8::from(answer.region),
+            level: answer.level,
+        }
+    }
+}
+
 impl Answer {
-    // The number of the refusal, or 0. Verdict has the same of another refusal: a function of both would be `map_or` itself under a name.
-    fn refusal_number(&self) -> u8
-        ensures { result ≡ number_in self.now.refusal }
-    {
-        self.refusal.map_or(0, u8::from)
-    }
-
-    // Both switches in one byte: D0 charge, D1 discharge.
-    fn switches(&self) -> u8
-        ensures { result ≡ switches_of self.now }
-    {
-        u8::from(self.charge) + 2 * u8::from(self.discharge)
-    }
-
-    // The twelve bytes of the answer. Words have the low byte first, and the region is in two's complement. The printed line tells the same
-    // numbers. A method and no From, so that both of its promises are clauses with names.
+    // The twelve bytes of the answer. The printed line tells the same numbers. A method and no From, so that both of its promises are
+    // clauses with names.
     pub fn bytes(&self) -> [u8; 12]
         ensures value { result ≡ bytes_of self.now }
         ensures told { line_at result ≡ line_of self.now }
     {
-        let Answer {
-            faults,
-            current,
-            voltage,
-            level,
-            ..
-        } = *self;
-        let refusal = self.refusal_number();
-        // Word by word: over all four at once by `map` two goals stay open.
-        let [faults_low, faults_high] = faults.to_le_bytes();
-        let [current_low, current_high] = current.to_le_bytes();
-        let [voltage_low, voltage_high] = voltage.to_le_bytes();
-        let [level_low, level_high] = level.to_le_bytes();
-        [
-            refusal,
-            self.switches(),
-            faults_low,
-            faults_high,
-            current_low,
-            current_high,
-            voltage_low,
-            voltage_high,
-            i8::from(self.region).cast_unsigned(),
-            0,
-            level_low,
-            level_high,
-        ]
+        AnswerNumbers::from(*self).bytes()
     }
 }
 
@@ -80,17 +58,7 @@ impl fmt::Display for Answer {
     ghost output = { λ a. Some (line_of a) };
 
     fn fmt<W: fmt::Write>(&self, f: &mut fmt::Formatter<W>) -> fmt::Result {
-        write!(
-            f,
-            "{} {} {} {} {} {} {}",
-            self.refusal_number(),
-            self.switches(),
-            self.faults,
-            self.current,
-            self.voltage,
-            i8::from(self.region),
-            self.level
-        )
+        AnswerNumbers::from(*self).fmt(f)
     }
 }
 

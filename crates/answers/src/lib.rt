@@ -2,5 +2,7 @@
 #![tactic(auto)]
 
 mod answer;
+mod numbers;
 
 pub use answer::Answer;
+pub use numbers::AnswerNumbers;

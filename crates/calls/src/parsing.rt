@@ -40,6 +40,7 @@ mod tests {
     use super::*;
     use crate::call::Offs;
     use reading::Reading;
+    use std::test::Fail;
 
     // The number of the refusal of a record, or 0, as an answer's line has it: the tests keep the numbers of the format.
     fn refusal(bytes: &[u8]) -> u8 {
@@ -94,5 +95,30 @@ mod tests {
         assert_eq!(rt; parse(&record), Ok(Call::Read(reading)));
         assert_eq!(rt; refusal(&with_words(b'X', 0, 0, 0)), 7);
         assert_eq!(rt; parse(&with_words(b'S', 3, 0, 0)), Ok(Call::Switch(offs)));
+    }
+
+    // No contract says a text: each is compared whole.
+    #[test]
+    fn texts_of_the_refusals(rt: HostRuntime) -> Result<(), Fail> {
+        let texts = [
+            (
+                Rejection::Letter,
+                "the first byte is the letter of no kind of record",
+            ),
+            (Rejection::Spare, "a byte or a bit without a meaning is set"),
+            (
+                Rejection::Range,
+                "the elapsed time, the voltage or the host limit is out of its range",
+            ),
+            (Rejection::Live, "a clear while a switch is not held off"),
+            (
+                Rejection::Length,
+                "the record has another length than 12 bytes",
+            ),
+        ];
+        for (refusal, text) in texts {
+            assert_eq!(rt; format!(in rt.alloc(); "{refusal}")?.as_str(), text);
+        }
+        Ok(())
     }
 }

@@ -1,7 +1,7 @@
 -- Eleven worked cases on the sample sheet, in the words of the contracts.
 use Rattle.std.specs.Prelude.{◌≡◌, ℕ, Bool, true, false, List, [], ◌∷◌, map, ℤ, pos, neg_ℤ, Ok}
 use Rattle.sheet.specs.Decoded.{decoded}
-use Rattle.reading.specs.Regions.{reached_by, number_of, level_of, zone_current, zone_voltage}
+use Rattle.reading.specs.Regions.{reached_of, region_of, reached_by, number_of, level_of, zone_current, zone_voltage}
 use Rattle.order.specs.Generous.{Generous}
 use Rattle.prescribers.specs.Usual.{usual_gives}
 use Rattle.calls.specs.Kinds.{reading_of}
@@ -11,9 +11,9 @@ use Rattle.pack.specs.Exact.{bit_at}
 use Rattle.cases.specs.Sample.{sample, short_watchdog}
 use Rattle.cases.specs.Records.{at25, at46, switch_offs, clear, answer_to}
 
--- the region of a temperature in 1/256 °C: -4 is TooCold, 0 Room, 4 TooHot
+-- the number of the region that an answer holds at a temperature in 1/256 °C: -4 is TooCold, 0 Room, 4 TooHot
 abbrev pub region_at : ℤ → ℤ
-region_at t = number_of (reached_by sample.degrees.edges t)
+region_at t = number_of (reached_of (region_of (reached_by sample.degrees.edges t)))
 
 -- a temperature in each region, from TooCold to TooHot: -6, -3, 2, 10, 25, 40, 46, 52 and 60 °C
 abbrev pub in_each : List ℤ

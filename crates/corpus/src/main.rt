@@ -32,13 +32,18 @@ fn run_case<R: Read, W: Write>(input: &mut R, out: &mut W) -> io::Result<()> {
     let judged = Sheet::decode(read_frame(input, &mut buffer)?);
     let verdict = Verdict::from(&judged);
     writeln!(out, "{verdict}")?;
-    let mut pack = judged.ok().map(|sheet| Pack::new(sheet, usual(&sheet)));
-    for _ in 0..read_count(input)? {
-        let record = read_frame(input, &mut buffer)?;
-        if let Some(pack) = &mut pack {
-            let answer = pack.call(record);
-            writeln!(out, "{answer}")?;
+    let count = read_count(input)?;
+    let Ok(sheet) = judged else {
+        for _ in 0..count {
+            read_frame(input, &mut buffer)?;
         }
+        return Ok(());
+    };
+    // Not an Option of a pack, with one loop for both kinds of image: to move a pack into it takes a case 150 instructions more.
+    let mut pack = Pack::new(sheet, usual(&sheet));
+    for _ in 0..count {
+        let answer = pack.call(read_frame(input, &mut buffer)?);
+        writeln!(out, "{answer}")?;
     }
     Ok(())
 }

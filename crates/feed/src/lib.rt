@@ -10,10 +10,9 @@ use std::io::Read;
 // Room for 341 records.
 const ROOM: usize = 341 * RECORD;
 
-// Fills the buffer from its start, as far as the input goes, and answers the bytes that came. A pipe may bring them one by one, so
-// fewer than the buffer takes came only where the input has ended.
-pub fn fill<'a, R: Read>(input: &mut R, buffer: &'a mut [u8]) -> io::Result<&'a [u8]>
-    ensures { IfOk result (λ came. length came.now ≤ length buffer.old) }
+// Fills the buffer from its start, as far as the input goes, and answers how many bytes came.
+fn fill_count<R: Read>(input: &mut R, buffer: &mut [u8]) -> io::Result<usize>
+    ensures { IfOk result (λ n. n ≤ length buffer.old) }
 {
     let mut have = 0;
     // counted by hand, since a read says only how many bytes came: there is no list to go over
@@ -24,6 +23,15 @@ pub fn fill<'a, R: Read>(input: &mut R, buffer: &'a mut [u8]) -> io::Result<&'a 
         }
         have += n;
     }
+    Ok(have)
+}
+
+// Fills the buffer from its start, as far as the input goes, and answers the bytes that came. A pipe may bring them one by one, so
+// fewer than the buffer takes came only where the input has ended.
+pub fn fill<'a, R: Read>(input: &mut R, buffer: &'a mut [u8]) -> io::Result<&'a [u8]>
+    ensures { IfOk result (λ came. length came.now ≤ length buffer.old) }
+{
+    let have = fill_count(input, buffer)?;
     Ok(&buffer[..have])
 }
 

@@ -1,5 +1,5 @@
 // Where each field stands in an image. Two-byte numbers have the low byte first.
-ghost use Rattle.std.specs.Prelude.{◌≡◌, ◌+◌, ◌<◌, length};
+ghost use Rattle.std.specs.Prelude.{◌≡◌, ◌+◌, ◌*◌, ◌<◌, length};
 ghost use Rattle.layout.specs.Fields.{word, signed, levels_of, degrees_of, row_of, steps_of, timing_of, limits_of};
 
 use super::limits::{Degrees, Levels, Limits, Row, Steps, Timing};
@@ -64,6 +64,14 @@ fn read_row(image: &[u8; IMAGE], at: usize) -> Row
     }
 }
 
+// The rows stand six bytes apart.
+fn row_place(i: usize) -> usize
+    requires { i < 7 }
+    ensures { result ≡ 56 + 6 * i }
+{
+    56 + 6 * i
+}
+
 fn read_steps(image: &[u8; IMAGE]) -> Steps
     ensures { result ≡ steps_of image.now }
 {
@@ -82,14 +90,25 @@ fn read_timing(image: &[u8; IMAGE]) -> Timing
     }
 }
 
-pub fn read_limits(image: &[u8; IMAGE]) -> Limits
+fn read_fields(image: &[u8; IMAGE]) -> Limits
     ensures { result ≡ limits_of image.now }
 {
     Limits {
         levels: read_levels(image),
         degrees: read_degrees(image),
-        rows: array::from_fn(|i| read_row(image, 56 + 6 * i)),
+        rows: array::from_fn(|i| read_row(image, row_place(i))),
         steps: read_steps(image),
         timing: read_timing(image),
     }
+}
+
+// All fields, from an image whose length is known by proof and not by type.
+pub fn read_limits(image: &[u8]) -> Limits
+    requires { length image.now ≡ IMAGE }
+    ensures { result ≡ limits_of image.now }
+{
+    let Ok(image) = <&[u8; IMAGE]>::try_from(image) else {
+        unreachable!()
+    };
+    read_fields(image)
 }

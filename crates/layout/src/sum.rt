@@ -12,7 +12,8 @@ fn total(bytes: &[u8]) -> u16
 }
 
 // The sum that an image is to end with: that of all bytes before it.
-pub fn body_sum(image: &[u8; IMAGE]) -> u16
+pub fn body_sum(image: &[u8]) -> u16
+    requires { length image.now ≡ IMAGE }
     ensures { result ≡ sum (take 114 image.now) }
 {
     total(&image[..114])

@@ -1,5 +1,5 @@
 // The temperature regions: eight edges part nine of them, from TooCold to TooHot.
-ghost use Rattle.std.specs.Prelude.{◌≡◌, ◌<◌, ◌≤◌, pos, ◌*ℤ◌, if◌then◌else◌, int_le, None, Some, slice_index_or};
+ghost use Rattle.std.specs.Prelude.{◌≡◌, ◌<◌, ◌≤◌, pos, ◌*ℤ◌, if◌then◌else◌, int_le, min, None, Some, slice_index_or};
 ghost use Rattle.reading.specs.Regions.{reached_of, region_of, reached_by, number_of, row_at, is_end, level_at, current_at, voltage_at};
 ghost use Rattle.sheet.specs.Charging.{no_row};
 
@@ -39,12 +39,12 @@ fn count_reached(edges: &[i8; 8], cell: i16) -> usize
 }
 
 impl Region {
-    // The region of a cell temperature, in 1/256 degree.
-    pub fn of(degrees: &Degrees, cell: i16) -> Region
-        ensures region { result ≡ region_of (reached_by degrees.now.edges cell) }
-        ensures reached { reached_of result ≡ reached_by degrees.now.edges cell }
+    // The region past so many of the edges. There are eight of them: past more is past all.
+    pub fn past(edges: usize) -> Region
+        ensures region { result ≡ region_of edges }
+        ensures reached { reached_of result ≡ min edges 8 }
     {
-        match count_reached(&degrees.edges, cell) {
+        match edges {
             0 => Region::TooCold,
             1 => Region::Cold2,
             2 => Region::Cold1,
@@ -55,6 +55,14 @@ impl Region {
             7 => Region::Hot2,
             _ => Region::TooHot,
         }
+    }
+
+    // The region of a cell temperature, in 1/256 degree.
+    pub fn of(degrees: &Degrees, cell: i16) -> Region
+        ensures region { result ≡ region_of (reached_by degrees.now.edges cell) }
+        ensures reached { reached_of result ≡ reached_by degrees.now.edges cell }
+    {
+        Region::past(count_reached(&degrees.edges, cell))
     }
 
     // The row of the sheet that serves the region: TooCold takes that of Cold2, TooHot that of Hot2.

@@ -4,6 +4,7 @@ use Rattle.layout.specs.declared.limits.Limits.{Limits}
 use Rattle.layout.specs.declared.refusal.Refusal.{Refusal}
 use Rattle.sheet.specs.declared.sheet.Sheet.{Sheet}
 use Rattle.sheet.specs.declared.verdict.Verdict.{Verdict}
+use Rattle.sheet.specs.declared.verdict.VerdictNumbers.{VerdictNumbers}
 use Rattle.layout.specs.Refusals.{number_of, place_of}
 
 -- what was read, without the sheet's invariant
@@ -24,5 +25,12 @@ abbrev pub place_in : Option Refusal → ℕ
 place_in None = 0
 place_in (Some e) = place_of e
 
+-- the numbers of a verdict
+abbrev pub numbers_of : Verdict → VerdictNumbers
+numbers_of v = record { number = number_in v.refusal; place = place_in v.refusal }
+
+abbrev pub line_in : VerdictNumbers → List ℕ
+line_in n = codes "sheet " ++ (decimal n.number ++ (32 ∷ decimal n.place))
+
 abbrev pub line_of : Verdict → List ℕ
-line_of v = codes "sheet " ++ (decimal (number_in v.refusal) ++ (32 ∷ decimal (place_in v.refusal)))
+line_of v = line_in (numbers_of v)

@@ -14,4 +14,4 @@ pub use layout::{IMAGE, Refusal};
 pub use limits::{Degrees, Levels, Limits, Row, Steps, Timing};
 pub use shares::share;
 pub use sheet::Sheet;
-pub use verdict::Verdict;
+pub use verdict::{Verdict, VerdictNumbers};

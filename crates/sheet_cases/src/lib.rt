@@ -4,7 +4,7 @@
 #[cfg(test)]
 mod tests {
     use sample::sample_image;
-    use sheet::{IMAGE, Sheet, Verdict};
+    use sheet::{IMAGE, Refusal, Sheet, Verdict, VerdictNumbers};
     use std::process::Abort;
     use std::test::Fail;
 
@@ -202,5 +202,39 @@ mod tests {
     fn the_sample_is_written_back(rt: HostRuntime) {
         let sheet = Sheet::decode(&sample_image()).expect(&rt, "the sample is a sheet");
         assert_eq!(rt; sheet.encode(), sample_image());
+    }
+
+    // No contract says the text of a refusal: each is compared whole.
+    #[test]
+    fn texts_of_the_refusals(rt: HostRuntime) -> Result<(), Fail> {
+        let texts = [
+            (Refusal::Length, "an image has 116 bytes"),
+            (Refusal::Header, "wrong edition or count of entries"),
+            (Refusal::Entry(3), "entry 3 of the contents is wrong"),
+            (Refusal::Sum, "wrong sum"),
+            (Refusal::Range(112), "the field at 112 is out of its range"),
+            (
+                Refusal::Conflict(24),
+                "the field at 24 is at odds with another one",
+            ),
+        ];
+        for (refusal, text) in texts {
+            assert_eq!(rt; format!(in rt.alloc(); "{refusal}")?.as_str(), text);
+        }
+        Ok(())
+    }
+
+    // Numbers that no image brings: those of a pair that is out of range.
+    #[test]
+    fn numbers_of_no_image(rt: HostRuntime) -> Result<(), Fail> {
+        let numbers = VerdictNumbers {
+            number: 9,
+            place: 200,
+        };
+        assert_eq!(rt;
+            format!(in rt.alloc(); "{numbers}")?.as_str(),
+            "sheet 9 200"
+        );
+        Ok(())
     }
 }

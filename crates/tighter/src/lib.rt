@@ -3,6 +3,7 @@
 
 ghost use Rattle.std.specs.Prelude.{◌≡◌};
 ghost use Rattle.pack.specs.Called.{Called};
+ghost use Rattle.pack.specs.Steps.{fresh};
 ghost use Rattle.order.specs.Generous.{Generous};
 ghost use Rattle.prescribers.specs.Usual.{usual_gives};
 ghost use Rattle.tighter.specs.Order.{newest_first, last_answers, TighterRun, TighterNeverMore, TighterCall};
@@ -27,6 +28,23 @@ pub fn call_both<P: Prescriber, Q: Prescriber>(
     (a, b)
 }
 
+// Feeds the records to both packs, and answers with what both said of the last one.
+fn feed_both<P: Prescriber, Q: Prescriber>(
+    tight: &mut Pack<P>,
+    loose: &mut Pack<Q>,
+    records: &[&[u8]],
+) -> Option<(Answer, Answer)>
+    requires { (tight.old.state ≡ fresh) × (loose.old.state ≡ fresh) }
+    ensures last { result ≡ last_answers tight.old.timed.sheet.limits (P.Prescriber.gives tight.old.prescriber) loose.old.timed.sheet.limits (Q.Prescriber.gives loose.old.prescriber) (newest_first records.now) }
+    ensures ordered { TighterNeverMore tight.old.timed.sheet.limits (P.Prescriber.gives tight.old.prescriber) loose.old.timed.sheet.limits (Q.Prescriber.gives loose.old.prescriber) (newest_first records.now) }
+{
+    let mut last = None;
+    for bytes in records {
+        last = Some(call_both(tight, loose, bytes));
+    }
+    last
+}
+
 // A tighter pack never does more. Two new packs, on two accepted sheets and with two prescribers of any kinds, are given every
 // record of the list, of any length and bytes; the answers of both to the last one come back. Where the loose sheet is at least
 // as generous as the tight one and the prescribers are in that order too, the tight pack's answer to each record of the list is
@@ -41,11 +59,7 @@ pub fn run_both<P: Prescriber + Drop, Q: Prescriber + Drop>(
 {
     let mut cautious = Pack::new(tight.0, tight.1);
     let mut generous = Pack::new(loose.0, loose.1);
-    let mut last = None;
-    for bytes in records {
-        last = Some(call_both(&mut cautious, &mut generous, bytes));
-    }
-    last
+    feed_both(&mut cautious, &mut generous, records)
 }
 
 // The same with the usual stack of each sheet: these are in order whenever the sheets are.

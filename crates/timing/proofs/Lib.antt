@@ -1,3 +1,4 @@
+pub mod Arrays
 pub mod Counted
 pub mod Exact
 pub mod Implies

@@ -73,7 +73,7 @@ impl Watches {
         ensures exact { UnreadTable self.new.table }
         ensures ordered { LevelStart self.new.table }
     {
-        *self = Watches::new();
+        self.table = [IDLE; FAULTS];
     }
 
     // Moves each fault's watch by what its rule sees of a reading, under its own delay. Three arrays and no struct for each fault: the
@@ -83,8 +83,8 @@ impl Watches {
         ensures exact { ExactAfter delays.now seen.now self.old.table self.new.table }
         ensures ordered { OrderedAfter delays.now seen.now self.old.table self.new.table }
     {
-        // Written out: by from_fn a record takes 754 instructions in place of 499, past the 600 of the C program that is the bar, and after
-        // iter_mut a proof knows the length alone.
+        // Written out: when from_fn was tried, a record took 754 instructions in place of 499, past the 600 of the C program that is the bar;
+        // and iter_mut would need a zip, after which a proof knows the length alone.
         self.advance_one(0, seen[0], delays[0]);
         self.advance_one(1, seen[1], delays[1]);
         self.advance_one(2, seen[2], delays[2]);
@@ -111,7 +111,8 @@ impl Watches {
     pub fn standing(&self) -> [bool; FAULTS]
         ensures { result ≡ all_standing self.now.table }
     {
-        self.table.map(|watch| watch.standing)
+        // Not map, which hands each watch over through memory: a host's word takes 14 instructions more by it.
+        std::array::from_fn(|k| self.table[k].standing)
     }
 }
 

@@ -42,7 +42,7 @@ fn put(out: &mut [u8], at: usize, part: &[u8])
     out[at..end].copy_from_slice(part);
 }
 
-// Writes words at a place, one after the other; by the place, since after `iter_mut` over the pieces a proof knows their number alone.
+// Writes words at a place, one after the other; by the place, since after `chunks_mut` a proof knows the length alone.
 fn put_words(out: &mut [u8], at: usize, words: &[u16])
     requires { at + 2 * length words.now ≤ length out.old }
     ensures { take (at + 2 * length words.now) out.new ≡ take at out.old ++ flat_map pair words.now }

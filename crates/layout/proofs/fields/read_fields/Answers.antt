@@ -2,7 +2,7 @@ use Rattle.std.proofs.Common.{◌+◌, ◌*◌, rules}
 use Rattle.layout.specs.Fields.{row_of, limits_of}
 use Rattle.layout.specs.Charging.{no_row}
 use Rattle.layout.proofs.Made.{made_of}
-use Rattle.layout.proofs.fields.read_limits.Goals as goal
+use Rattle.layout.proofs.fields.read_fields.Goals as goal
 
 pub returns : goal.returns
 unfolding limits_of

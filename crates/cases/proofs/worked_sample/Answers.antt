@@ -1,7 +1,7 @@
 use Rattle.std.proofs.Common.{sym, subst}
 use Rattle.cases.specs.Cases.{WorkedCases}
 use Rattle.cases.proofs.Cases.{all_hold, more_hold}
-use Rattle.cases.proofs.sample_image.Goals as goal
+use Rattle.cases.proofs.worked_sample.Goals as goal
 
 pub returns : goal.returns
 returns c = record {

@@ -1,5 +1,5 @@
 use Rattle.std.proofs.Common.{◌-◌, ◌≤◌, length}
-use Rattle.feed.proofs.fill.Given as goal
+use Rattle.feed.proofs.fill_count.Given as goal
 
 abbrev pub invariant-loop-have : goal.invariant-loop-have
 invariant-loop-have g l = l.have ≤ length l.initial.buffer
